@@ -1,0 +1,22 @@
+//! The plain types of parcon, and the definitions of what a lawful history is.
+//!
+//! Every other crate cites these definitions; none of them speaks of how the code works.
+#![tactic(auto)]
+
+mod choices;
+mod commit;
+mod event;
+mod journal;
+mod lists;
+mod outcome;
+mod setup;
+mod texts;
+
+pub use choices::{BadMapRule, Order, Work};
+pub use commit::{Commit, SizedCommit};
+pub use event::Event;
+pub use journal::Journal;
+pub use lists::{Answer, Delays, FailRules, Starts};
+pub use outcome::{FailRule, Outcome, Rules, Start};
+pub use setup::{Settings, Setup, SetupFault, SetupField};
+pub use texts::{KeyText, MapText, NameText};
