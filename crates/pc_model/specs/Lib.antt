@@ -1,0 +1,4 @@
+pub mod Bits
+pub mod MapSpelling
+pub mod MapReading
+pub mod BestMap
