@@ -1,6 +1,6 @@
 -- The spellings of a map: its bits as bytes, by the letter of the encoding. Numbers are big-endian.
-use Rattle.std.specs.Prelude.{ℕ, ◌+◌, ◌-◌, ◌*◌, ◌/◌, ◌^◌, ◌==◌, nat_lt, Bool, true, false, if◌then◌else◌, List, [], ◌∷◌, ◌++◌, map, length, Option, Some, None}
-use Rattle.std.specs.List.{flat_map, list_all, range_with_len, slice_index_or}
+use Rattle.std.specs.Prelude.{ℕ, ◌+◌, ◌-◌, ◌*◌, ◌/◌, ◌^◌, ◌==◌, nat_lt, Bool, true, false, if◌then◌else◌, List, [], ◌∷◌, ◌++◌, map, length, take, drop, Option, Some, None}
+use Rattle.std.specs.List.{flat_map, list_all, range_with_len}
 use Rattle.byteorder.specs.Endian.{big_bytes}
 use Rattle.pc_model.specs.declared.map_letter.TheConstants.{BITSET, BITSET_2, RUN_LENGTH, RUN_LENGTH_2}
 
@@ -8,16 +8,14 @@ use Rattle.pc_model.specs.declared.map_letter.TheConstants.{BITSET, BITSET_2, RU
 abbrev pub number_fits : ℕ → ℕ → Bool
 number_fits width n = nat_lt n (2 ^ (8 * width - 1))
 
--- 1 where the bit at this place is 1; 0 where it is 0 or lies past the last
-abbrev pub bit_value : List Bool → ℕ → ℕ
-bit_value bits place = if slice_index_or bits place false then 1 else 0
+-- bits as a number, the first of them the lowest: bit i has the mask 1 << i
+abbrev pub low_first : List Bool → ℕ
+low_first [] = 0
+low_first (bit ∷ bits) = (if bit then 1 else 0) + 2 * low_first bits
 
 -- byte i: the bit at place p is in byte p / 8 with the mask 1 << (p mod 8)
 abbrev pub byte_of : List Bool → ℕ → ℕ
-byte_of bits i = 1 * bit_value bits (8 * i) + 2 * bit_value bits (8 * i + 1)
-    + 4 * bit_value bits (8 * i + 2) + 8 * bit_value bits (8 * i + 3)
-    + 16 * bit_value bits (8 * i + 4) + 32 * bit_value bits (8 * i + 5)
-    + 64 * bit_value bits (8 * i + 6) + 128 * bit_value bits (8 * i + 7)
+byte_of bits i = low_first (take 8 (drop (8 * i) bits))
 
 -- as few bytes as hold so many bits
 abbrev pub byte_count : ℕ → ℕ
