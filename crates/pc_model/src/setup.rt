@@ -141,6 +141,7 @@ impl Setup {
     }
 }
 
+#[tactic(auto, unfolding(crate::specs::Ranges::settings_fault))]
 fn check_settings(s: &Settings) -> Result<(), SetupFault>
     ensures { result ≡ refuses (settings_fault s.now) }
 {
