@@ -1,3 +1,4 @@
 pub mod BitsLemmas
 pub mod MapRows
 mod RangesLemmas
+pub mod Legal

@@ -1,5 +1,5 @@
 -- Lemmas on the ranges of a setup.
-use Rattle.std.proofs.Common.{◌≡◌, ℕ, ◌+◌, ◌<◌, ◌==◌, [], List, take, drop, length, get_or, Some, true, false, add-one, sym, ◌∙◌, subst, refl}
+use Rattle.std.proofs.Common.{◌≡◌, ℕ, ◌+◌, ◌<◌, ◌==◌, [], List, take, drop, length, get_or, Some, true, false, add-one, ◌∙◌}
 use Rattle.std.specs.Prelude.{if◌then◌else◌}
 use Rattle.std.specs.List.{list_any}
 use Rattle.std.proofs.Math.Seq.{drop-cons, take-suc}
@@ -11,7 +11,7 @@ use Rattle.pc_model.specs.Ranges.{twice_fault}
 pub twice_fault-step : (starts : List Start) (i : ℕ) (d : Start) → i < length starts →
     twice_fault (take i starts) (drop i starts)
     ≡ (if list_any (λ t. t.part == (get_or starts i d).part) (take i starts) then Some (PartTwice (get_or starts i d).part)
-       else twice_fault (take (i + 1) starts) (drop (i + 1) starts))
+    else twice_fault (take (i + 1) starts) (drop (i + 1) starts))
 twice_fault-step starts i d h = rw (drop-cons starts i d h, add-one, take-suc starts i d h)
 
 -- the start at i has the part of an earlier one, and none before it has

@@ -1,5 +1,5 @@
 -- What a run is given: the setup, the logs, what was stored before, and whether the link tells its store.
-use Rattle.std.specs.Prelude.{ℕ, suc, Bool, true, false, ◌&&◌, ◌==◌, nat_lt, nat_le, List, [], ◌∷◌, map, length, codes, Option, Some, None, is_some, unwrap_or, option_map, find, filter, slice_get}
+use Rattle.std.specs.Prelude.{ℕ, suc, Bool, true, ◌&&◌, ◌==◌, nat_le, List, [], ◌∷◌, length, Option, is_some, unwrap_or, find, slice_get}
 use Rattle.std.specs.List.{list_all, range_with_len}
 use Rattle.std.specs.Option.{option_map_or, option_flatten}
 use Rattle.pc_model.specs.declared.setup.Setup.{Setup}

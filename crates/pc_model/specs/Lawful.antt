@@ -1,11 +1,8 @@
 -- Which event may come next, and which histories are legal.
-use Rattle.std.specs.Prelude.{ℕ, ◌+◌, ◌-◌, ◌<◌, ◌≡◌, Bool, true, false, not, ◌&&◌, ◌||◌, ◌==◌, if◌then◌else◌, List, [], ◌∷◌, length, Option, Some, None, filter, option_map, slice_get}
+use Rattle.std.specs.Prelude.{ℕ, ◌+◌, ◌-◌, ◌<◌, ◌≡◌, Bool, true, false, ◌&&◌, ◌==◌, List, [], ◌∷◌, Some, filter, option_map, slice_get}
 use Rattle.std.specs.List.{list_all}
 use Rattle.pc_model.specs.declared.event.Event.{Event}
 use Rattle.pc_model.specs.declared.event.Event.TheVariants.{Assign, Poll, Dispatch, Success, Failure, Stale, Commit as Committed, CommitFailed, Revoke, Lost, Crash, Tick, Drain, Done, Closed}
-use Rattle.pc_model.specs.declared.commit.Commit.{Commit}
-use Rattle.pc_model.specs.declared.commit.SizedCommit.{SizedCommit}
-use Rattle.pc_model.specs.declared.outcome.Outcome.{Outcome}
 use Rattle.pc_model.specs.declared.outcome.Outcome.TheVariants.{Good, Bad}
 use Rattle.pc_model.specs.Given.{Given, has_log, parts_of, all_logs_rise}
 use Rattle.pc_model.specs.Jobs.{dispatch_count, is_outstanding, has_ended, is_draining}

@@ -20,3 +20,4 @@ pub mod Next
 pub mod Lawful
 pub mod Sound
 pub mod Run
+pub mod Test

@@ -1,7 +1,6 @@
 -- What follows from a part's begin and from which of its known offsets are complete.
-use Rattle.std.specs.Prelude.{ℕ, ◌+◌, Bool, true, false, not, List, [], ◌∷◌, map, Option, Some, None, filter, unwrap_or}
+use Rattle.std.specs.Prelude.{ℕ, ◌+◌, Bool, not, List, [], map, Option, filter, unwrap_or}
 use Rattle.std.specs.Option.{option_map_or}
-use Rattle.pc_model.specs.declared.commit.Commit.{Commit}
 use Rattle.pc_model.specs.declared.commit.SizedCommit.{SizedCommit}
 use Rattle.pc_model.specs.Numbers.{least_of, greatest_of}
 use Rattle.pc_model.specs.Bits.{bits_between}

@@ -1,5 +1,5 @@
 -- The outcome of a function, by the rules.
-use Rattle.std.specs.Prelude.{ℕ, Bool, false, ◌&&◌, ◌==◌, nat_le, if◌then◌else◌, List, length, sum, decimal, codes, Option, Some, None, find, option_map, option_and_then}
+use Rattle.std.specs.Prelude.{ℕ, false, ◌&&◌, ◌==◌, nat_le, if◌then◌else◌, List, length, sum, decimal, codes, Option, Some, None, find, option_map, option_and_then}
 use Rattle.std.specs.Option.{option_map_or}
 use Rattle.hex.specs.Hex.{encode_lower}
 use Rattle.pc_model.specs.declared.choices.Work.{Work}

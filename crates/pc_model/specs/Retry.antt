@@ -1,5 +1,5 @@
 -- The clock, failures, and when a record may run again.
-use Rattle.std.specs.Prelude.{ℕ, ◌+◌, ◌-◌, ◌^◌, min, Bool, false, ◌==◌, if◌then◌else◌, List, [], ◌∷◌, length, Option, Some, None, unwrap_or, slice_index}
+use Rattle.std.specs.Prelude.{ℕ, ◌+◌, ◌-◌, ◌^◌, min, if◌then◌else◌, List, [], ◌∷◌, length, Option, Some, None, unwrap_or, slice_index}
 use Rattle.pc_model.specs.declared.event.Event.{Event}
 use Rattle.pc_model.specs.declared.event.Event.TheVariants.{Failure, Tick}
 use Rattle.pc_model.specs.Jobs.{job_of}

@@ -1,5 +1,5 @@
 -- The tests by which a run decides what to do next.
-use Rattle.std.specs.Prelude.{ℕ, ◌+◌, ◌-◌, min, Bool, true, false, not, ◌&&◌, ◌||◌, ◌==◌, nat_lt, nat_le, if◌then◌else◌, List, [], ◌∷◌, map, length, Option, Some, None, is_some, is_none, filter, slice_get, flat_map}
+use Rattle.std.specs.Prelude.{ℕ, ◌+◌, ◌-◌, min, Bool, false, not, ◌&&◌, ◌||◌, ◌==◌, nat_lt, nat_le, if◌then◌else◌, List, [], ◌∷◌, map, length, Option, Some, None, is_none, filter, slice_get, flat_map}
 use Rattle.std.specs.List.{list_any, list_all}
 use Rattle.std.specs.Option.{option_map_or}
 use Rattle.pc_model.specs.declared.event.Event.{Event}
@@ -9,7 +9,7 @@ use Rattle.pc_model.specs.Numbers.{least_of}
 use Rattle.pc_model.specs.Given.{Given}
 use Rattle.pc_model.specs.Jobs.{job_of, is_draining, open_jobs}
 use Rattle.pc_model.specs.Epochs.{epoch_of, is_held, is_current}
-use Rattle.pc_model.specs.Known.{polled_records, unpolled_records, is_complete, is_success_at}
+use Rattle.pc_model.specs.Known.{polled_records, unpolled_records, is_complete}
 use Rattle.pc_model.specs.Pressure.{is_blocked, is_upto_high}
 use Rattle.pc_model.specs.Retry.{now_of, failures_of, ready_of}
 use Rattle.pc_model.specs.Next.{is_before}
@@ -29,7 +29,7 @@ may_poll_next given h p (Some r) = not (is_blocked given h p) || is_upto_high gi
 unfoldable pub poll_number : Given → List Event → ℕ → Option ℕ
 poll_number given h p =
     if is_held h p && not (is_draining h) && may_poll_next given h p (slice_get (unpolled_records given h p) 0)
-        && nat_lt (length (open_records given h p)) given.setup.buffer
+    && nat_lt (length (open_records given h p)) given.setup.buffer
     then Some (min given.setup.poll_max (given.setup.buffer - length (open_records given h p))) else None
 
 -- whether this event is an assignment or a commit of the part, stored or failed

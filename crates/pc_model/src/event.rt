@@ -14,7 +14,11 @@ pub enum Event {
         map: MapText,
     },
     /// The next `count` records of a part were read, the last of them at offset `last`.
-    Poll { part: u32, count: u32, last: u64 },
+    Poll {
+        part: u32,
+        count: u32,
+        last: u64,
+    },
     /// A record goes to a worker as the job of this ticket. Attempts count from 1 in each epoch.
     Dispatch {
         ticket: u64,
@@ -25,7 +29,10 @@ pub enum Event {
         attempt: u32,
     },
     /// The function succeeded on the ticket's record.
-    Success { ticket: u64, answer: Answer },
+    Success {
+        ticket: u64,
+        answer: Answer,
+    },
     /// The function failed, and the record may run again from `ready_at` on.
     Failure {
         ticket: u64,
@@ -33,7 +40,9 @@ pub enum Event {
         ready_at: u64,
     },
     /// A result came back for an epoch that is over.
-    Stale { ticket: u64 },
+    Stale {
+        ticket: u64,
+    },
     /// The position and the map were stored; `size` is the best map's length in characters.
     Commit {
         part: u32,
@@ -49,13 +58,21 @@ pub enum Event {
         size: u32,
     },
     /// A part is given up after a commit, which ends this epoch.
-    Revoke { part: u32, epoch: u64 },
+    Revoke {
+        part: u32,
+        epoch: u64,
+    },
     /// A part is taken away, which ends this epoch.
-    Lost { part: u32, epoch: u64 },
+    Lost {
+        part: u32,
+        epoch: u64,
+    },
     /// The process stopped: only the journal, the outstanding jobs and the store are left.
     Crash,
     /// The clock stands at this number.
-    Tick { now: u64 },
+    Tick {
+        now: u64,
+    },
     /// From here on nothing is assigned or polled.
     Drain,
     /// All records of the held parts are finished and stored.

@@ -61,7 +61,9 @@ pub enum SetupFault {
         most: u64,
     },
     /// The part stands in two starts.
-    PartTwice { part: u32 },
+    PartTwice {
+        part: u32,
+    },
 }
 
 /// The setup of a run. Its fields are those of `Settings`, each in its range:
@@ -83,13 +85,19 @@ pub struct Setup {
     pub commit_every: u32,
     pub bad_map: BadMapRule,
     pub starts: Starts,
-    pub ghost in_range: {
-        IsTrue (is_none (settings_fault (record {
-            order = order; rules = rules; map_limit = map_limit; press_percent = press_percent;
-            delays = delays; give_up = give_up; buffer = buffer; poll_max = poll_max;
-            commit_every = commit_every; bad_map = bad_map; starts = starts
-        })))
-    },
+    pub ghost in_range: { IsTrue (is_none (settings_fault (record {
+      order = order;
+      rules = rules;
+      map_limit = map_limit;
+      press_percent = press_percent;
+      delays = delays;
+      give_up = give_up;
+      buffer = buffer;
+      poll_max = poll_max;
+      commit_every = commit_every;
+      bad_map = bad_map;
+      starts = starts;
+    }))) },
 }
 
 impl Setup {
@@ -170,7 +178,12 @@ fn check_numbers(s: &Settings) -> Result<(), SetupFault>
     check_range(SetupField::GiveUp, 1, 1_000_000, u64::from(s.give_up))?;
     check_range(SetupField::Buffer, 1, 1_000_000, u64::from(s.buffer))?;
     check_range(SetupField::PollMax, 1, 1_000_000, u64::from(s.poll_max))?;
-    check_range(SetupField::CommitEvery, 1, 1_000_000, u64::from(s.commit_every))
+    check_range(
+        SetupField::CommitEvery,
+        1,
+        1_000_000,
+        u64::from(s.commit_every),
+    )
 }
 
 fn check_delays(delays: &[u64]) -> Result<(), SetupFault>
@@ -218,7 +231,12 @@ fn check_start(start: &Start) -> Result<(), SetupFault>
 {
     check_range(SetupField::StartPart, 0, 1_023, u64::from(start.part))?;
     check_range(SetupField::StartPosition, 0, (1 << 63) - 1, start.position)?;
-    check_range(SetupField::StartMap, 0, 4_096, start.map.as_str().len() as u64)
+    check_range(
+        SetupField::StartMap,
+        0,
+        4_096,
+        start.map.as_str().len() as u64,
+    )
 }
 
 fn check_starts(starts: &[Start]) -> Result<(), SetupFault>
