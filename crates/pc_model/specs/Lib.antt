@@ -21,3 +21,4 @@ pub mod Lawful
 pub mod Sound
 pub mod Run
 pub mod Test
+pub mod Rows
