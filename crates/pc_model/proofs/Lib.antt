@@ -4,3 +4,4 @@ mod RangesLemmas
 pub mod Legal
 pub mod RowsLegal
 pub mod OnLiterals
+pub mod SamePart
