@@ -11,3 +11,4 @@ pub mod StoredLaws
 pub mod KnownLaws
 pub mod RetryLaws
 pub mod JobLaws
+pub mod NextLaws
