@@ -12,3 +12,4 @@ pub mod KnownLaws
 pub mod RetryLaws
 pub mod JobLaws
 pub mod NextLaws
+pub mod RunLaws

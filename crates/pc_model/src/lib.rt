@@ -8,6 +8,7 @@ mod bits_fault;
 mod choices;
 mod commit;
 mod event;
+pub mod evidence;
 mod journal;
 mod lists;
 mod map_fault;
