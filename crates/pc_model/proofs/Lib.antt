@@ -4,4 +4,5 @@ pub mod BytesLemmas
 pub mod MapRows
 pub mod ReadingLemmas
 pub mod RunLemmas
+pub mod RunsAt
 pub mod Tables
