@@ -13,3 +13,9 @@ pub mod RetryLaws
 pub mod JobLaws
 pub mod NextLaws
 pub mod RunLaws
+pub mod BestMapLemmas
+pub mod BytesLemmas
+pub mod ReadingLemmas
+pub mod RunLemmas
+pub mod RunsAt
+pub mod Tables

@@ -1,5 +1,5 @@
 -- One bit n times more.
-use Rattle.std.proofs.Common.{◌≡◌, ◌⊎◌, ◌+◌, ◌<◌, ◌^◌, Bool, true, length, arith, rules, sym, ap, ◌∙◌, inl, inr}
+use Rattle.std.proofs.Common.{◌≡◌, ◌⊎◌, true, length, arith, ap, inl, inr}
 use Rattle.pc_model.proofs.BitsLemmas.{AreBits-push, AreBits-push_zeros, bits_of-push, bits_of-push_zeros, length-view}
 use Rattle.pc_model.proofs.bits.Bits.push.Goals as goal
 use Rattle.pc_model.proofs.bits.Bits.push.Goals.{then-bit-via-then-bit, then-bit-via-else-bit+then-n-eq0}
