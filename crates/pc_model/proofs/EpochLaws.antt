@@ -6,10 +6,12 @@ use Rattle.pc_model.specs.Epochs.{epoch_of, is_held}
 use Rattle.pc_model.proofs.ListLemmas.{same_number}
 
 module _ (h : List Event) (p epoch : ℕ) where
-  pub epoch_of-assign : (position : ℕ) (text : List ℕ) → epoch_of (Assign p epoch position text ∷ h) p ≡ epoch_of h p + 1
+  pub epoch_of-assign : (position : ℕ) (text : List ℕ) → epoch_of
+      (Assign p epoch position text ∷ h) p ≡ epoch_of h p + 1
   epoch_of-assign position text = simp (same_number p)
 
-  pub is_held-assign : (position : ℕ) (text : List ℕ) → is_held (Assign p epoch position text ∷ h) p ≡ true
+  pub is_held-assign : (position : ℕ) (text : List ℕ) → is_held (Assign p epoch position text ∷ h) p
+      ≡ true
   is_held-assign position text = simp (same_number p)
 
   pub epoch_of-revoke : epoch_of (Revoke p epoch ∷ h) p ≡ epoch_of h p + 1

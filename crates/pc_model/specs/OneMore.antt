@@ -1,5 +1,5 @@
 -- What one more event leaves as it was.
-use Rattle.std.specs.Prelude.{ℕ, ◌≡◌, Bool, true, false, ◌==◌, ◌||◌, List, [], ◌∷◌, map, Option, Some, None}
+use Rattle.std.specs.Prelude.{ℕ, ◌≡◌, Bool, true, false, ◌==◌, ◌||◌, List, map, Option, Some, None}
 use Rattle.pc_model.specs.declared.event.Event.{Event}
 use Rattle.pc_model.specs.declared.event.Event.TheVariants.{Assign, Poll, Success, Failure, Commit as Committed, CommitFailed, Revoke, Lost, Crash}
 use Rattle.pc_model.specs.Given.{Given}
@@ -30,8 +30,9 @@ touches (Lost q epoch) h p = q == p
 touches Crash h p = true
 touches _ h p = false
 
--- what is said of the part is the same in both histories: its epoch and whether it is held, what it was assigned with and how much
--- was polled, what succeeded and failed in each epoch, and what may be stored and was not stored yet
+-- what is said of the part is the same in both histories: its epoch and whether it is held, what it
+-- was assigned with and how much was polled, what succeeded and failed in each epoch, and what may
+-- be stored and was not stored yet
 pub record SamePart (given : Given) (p : ℕ) (before after : List Event) : Type 0 where
   pub epoch : epoch_of after p ≡ epoch_of before p
   pub held : is_held after p ≡ is_held before p
@@ -47,4 +48,5 @@ pub record SamePart (given : Given) (p : ℕ) (before after : List Event) : Type
 
 -- the marks where one more offset is complete
 abbrev pub with_complete : ℕ → List Mark → List Mark
-with_complete o marks = map (λ m. record { offset = m.offset; is_complete = (o == m.offset) || m.is_complete }) marks
+with_complete o marks = map
+    (λ m. record { offset = m.offset; is_complete = (o == m.offset) || m.is_complete }) marks
