@@ -79,7 +79,7 @@ groups_of-least (suc more) u (suc len) some h =
           let rest = groups_of-least more (u / 128) len left (omega arith) in omega arith)
     ]
 
-IsGroups-some : (bytes : List ℕ) → IsGroups bytes → 0 < length bytes
+pub IsGroups-some : (bytes : List ℕ) → IsGroups bytes → 0 < length bytes
 IsGroups-some [] g = absurd g
 IsGroups-some (b ∷ bytes) g = omega arith
 

@@ -43,10 +43,10 @@ IsVarint bytes n = IsSpelling 5 (2 ^ 32) bytes n
 abbrev pub IsVarlong : List ℕ → ℤ → Type 0
 IsVarlong bytes n = IsSpelling 10 (2 ^ 64) bytes n
 
--- the bytes are a spelling of n, by that grammar, and then the rest
-pub record SpelledBefore (IsSpelled : List ℕ → ℤ → Type 0) (bytes : List ℕ) (n : ℤ) (rest : List ℕ) : Type 0 where
+-- the bytes are a spelling of x, by that grammar, and then the rest
+pub record SpelledBefore {A : Type 0} (IsSpelled : List ℕ → A → Type 0) (bytes : List ℕ) (x : A) (rest : List ℕ) : Type 0 where
   pub text : List ℕ
-  pub spelled : IsSpelled text n
+  pub spelled : IsSpelled text x
   pub parts : bytes ≡ text ++ rest
 
 -- The unsigned number at the front: its bytes go up to the first one with no top bit. It is too long
