@@ -1,9 +1,9 @@
 -- A batch that is read is of the grammar, and what is of the grammar is read.
-use Rattle.std.proofs.Common.{◌≡◌, ℕ, zero, suc, ◌+◌, ◌-◌, ◌<◌, ◌≤◌, ◌^◌, Bool, true, false, cond, eqb, ltb, List, [], ◌∷◌, ◌++◌, length, take, drop, length-drop, length-take, Option, Some, None, Result, Ok, Err, refl, sym, ap, subst, ◌∙◌, arith}
+use Rattle.std.proofs.Common.{◌≡◌, ℕ, ◌+◌, ◌-◌, ◌<◌, ◌≤◌, ◌^◌, Bool, true, false, cond, eqb, ltb, List, ◌++◌, length, take, drop, length-drop, length-take, Some, None, Result, Ok, Err, refl, sym, ap, subst, ◌∙◌, arith}
 use Rattle.std.specs.Prelude.{ℤ, pos, IfOk, IfErr, OnOk}
 use Rattle.std.proofs.Common.{negsuc}
 use Rattle.std.specs.Result.{result_err}
-use Rattle.std.specs.Int.{Width, w8, w32, w64, byte_len, cast_signed}
+use Rattle.std.specs.Int.{Width, w8, w32, byte_len, cast_signed}
 use Rattle.std.proofs.lemmas.Bool.{ltb-false, ltb-true, le-ltb, lt-ltb, eqb-true}
 use Rattle.std.proofs.lemmas.List.{take-append-drop, take_at, drop-append-le, length-append}
 use Rattle.byteorder.specs.Numbers.{big_from-append}
@@ -12,7 +12,7 @@ use Rattle.pc_bytes.specs.Fields.{◌>>=◌}
 use Rattle.pc_bytes.proofs.VarintLaws.{bind_ok}
 use Rattle.pc_batch.specs.declared.fault.RecordKind.{RecordKind}
 use Rattle.pc_batch.specs.declared.fault.BatchFault.{BatchFault}
-use Rattle.pc_batch.specs.declared.fault.BatchFault.TheVariants.{Short, BadMagic, BadLength, BadCrc, Compressed, OffsetRange, BadRecord, Count}
+use Rattle.pc_batch.specs.declared.fault.BatchFault.TheVariants.{Short, BadMagic, BadLength, BadCrc, Compressed, OffsetRange, Count}
 use Rattle.pc_batch.specs.declared.frame.Times.{Times}
 use Rattle.pc_batch.specs.declared.frame.Frame.{Frame}
 use Rattle.pc_batch.specs.Batch.{Contents, Placed, number_from, signed_from, base_offset, batch_length, magic, stored_crc, found_crc, compression, is_control, last_delta, times_in, record_count, IsBatch, IsBatchAt, length_of, whole_of, whole_at, intact, range_of, frame_of, placed, same_count, batch_at, batch_fault}
@@ -137,6 +137,7 @@ range-takes (pos base) (pos delta) stamps frame e = by_test (ltb (base + delta) 
   where
     made : Frame
     made = record { base = base; last = base + delta; times = stamps }
+
     by_test : (b : Bool) → ltb (base + delta) (2 ^ 63 - 1) ≡ b → ◌≡◌ {A = Result Frame BatchFault} (cond b (Ok made) (Err (OffsetRange (pos base) (pos delta)))) (Ok frame) → IsRange (pos base) (pos delta) stamps frame
     by_test true t e =
         let is : IsRange (pos base) (pos delta) stamps made = record { moved = delta; is_base = refl; is_delta = refl; is_last = refl; range = ltb-true _ _ t; is_times = refl } in
@@ -187,6 +188,13 @@ batch-is at bytes text records frame found control w i f d k n c =
     let all : records_at (length (drop 61 text)) frame frame.base (drop 61 text) ≡ Ok t.0 = ap (λ (l : List ℕ). records_at (length l) frame frame.base l) (sym d) ∙ t.1 in
     let many : found ≡ length t.0 = omega (arith, t.2) in
     rw (w, i, f, all, count-again (record_count text) t.0 (n ∙ ap pos many), front, c) refl
+
+-- as many as were counted
+pub found-is : (end n found : ℕ) (frame : Frame) (least : ℕ) (bytes : List ℕ) → length bytes ≤ n → counted 0 end (records_at n frame least bytes) ≡ Ok found → found ≡ length (front_records n frame least bytes)
+found-is end n found frame least bytes short k =
+    let t = counted_by 0 end found (records_at n frame least bytes) k in
+    let front : front_records n frame least bytes ≡ t.0 = front-of_all n frame least bytes t.0 short t.1 in
+    omega (arith, t.2, ap length front)
 
 record Reads (at : ℕ) (bytes : List ℕ) (x : Placed) : Type 0 where
   text : List ℕ
@@ -240,12 +248,14 @@ unfolding batch_at
 batch-again at text rest batch is =
     let frame : Frame = record { base = batch.base; last = batch.last; times = times_in text } in
     let all = records-again batch.records (length (drop 61 text)) (record { base = batch.base; last = batch.last; times = times_in text }) batch.base (drop 61 text) is.are_records (omega arith) in
-    rw (whole-again at text rest is.whole is.is_magic is.is_length,
-        intact-again text is.is_crc is.is_plain,
-        frame-again text batch.base is.moved batch.last is.is_base is.is_delta is.is_last is.range,
-        all,
-        count-again (record_count text) batch.records is.is_count,
-        sym is.is_control_bit)
+    rw (
+      whole-again at text rest is.whole is.is_magic is.is_length,
+      intact-again text is.is_crc is.is_plain,
+      frame-again text batch.base is.moved batch.last is.is_base is.is_delta is.is_last is.range,
+      all,
+      count-again (record_count text) batch.records is.is_count,
+      sym is.is_control_bit,
+    )
     refl
 
 -- ---- what a reader answered
@@ -264,9 +274,14 @@ read-only log left at r is read fault batch in_log =
   where
     at_end : ℕ → Result Placed BatchFault
     at_end n = Ok (record { contents = batch.contents; end = n })
+
     by_answer : (r : Result Placed BatchFault) → IfOk r (λ b. batch_at at left ≡ Ok b) → IfErr r (λ f. batch_at at left ≡ Err f) → batch_at at left ≡ Ok batch → r ≡ Ok batch
     by_answer (Ok b) read fault here = sym read ∙ here
     by_answer (Err f) read fault here = sym fault ∙ here
+
+pub read-value : (log left : List ℕ) (at : ℕ) (r : Result Placed BatchFault) → left ≡ drop at log → IfOk r (λ b. batch_at at left ≡ Ok b) → IfOk r (λ b. batch_at at (drop at log) ≡ Ok b)
+read-value log left at (Ok b) is read = ap (batch_at at) (sym is) ∙ read
+read-value log left at (Err f) is read = tt
 
 pub read-sound : (log left : List ℕ) (at : ℕ) (r : Result Placed BatchFault) → left ≡ drop at log → IfOk r (λ b. batch_at at left ≡ Ok b) → OnOk r (batch_fault log at ≡ None)
 unfolding batch_fault

@@ -1,15 +1,15 @@
 -- A field that is read is of the grammar, and what is of the grammar is read.
-use Rattle.std.proofs.Common.{◌≡◌, ℕ, zero, suc, ◌+◌, ◌<◌, ◌≤◌, Bool, true, false, cond, ltb, List, [], ◌∷◌, ◌++◌, length, take, drop, Option, Some, None, Result, Ok, Err, refl, sym, ap, subst, ◌∙◌, append_assoc, arith}
+use Rattle.std.proofs.Common.{◌≡◌, ℕ, zero, suc, ◌<◌, ◌≤◌, Bool, true, false, cond, ltb, List, ◌++◌, length, take, drop, Option, Some, None, Result, Ok, Err, refl, sym, ap, subst, ◌∙◌, append_assoc, arith}
 use Rattle.std.specs.Prelude.{ℤ, pos}
 use Rattle.std.proofs.Common.{negsuc}
 use Rattle.std.proofs.lemmas.Bool.{ltb-false, le-ltb}
-use Rattle.std.proofs.lemmas.List.{take-append-drop, take_at, drop_at, length-append, length-take, append-nil}
-use Rattle.pc_bytes.specs.Fields.{Gap, ◌>>=◌, number_at}
+use Rattle.std.proofs.lemmas.List.{take-append-drop, take_at, drop_at, length-append, length-take}
+use Rattle.pc_bytes.specs.Fields.{Gap, ◌>>=◌}
 use Rattle.pc_bytes.specs.Varint.{IsVarint, IsVarlong, SpelledBefore, varint_at, varlong_at}
 use Rattle.pc_bytes.proofs.VarintLaws.{bind_ok, varint_at-spelled, varint_at-again, varlong_at-spelled, varlong_at-again, IsGroups-some}
 use Rattle.pc_batch.specs.declared.fault.RecordKind.{RecordKind}
-use Rattle.pc_batch.specs.declared.fault.RecordKind.TheVariants.{Varint, Past, HeaderCount}
-use Rattle.pc_batch.specs.Fields.{or_kind, byte_at, int_at, long_at, sized_of, sized_at, nullable_of, nullable_at, count_of, count_at}
+use Rattle.pc_batch.specs.declared.fault.RecordKind.TheVariants.{Varint, Past}
+use Rattle.pc_batch.specs.Fields.{or_kind, int_at, long_at, sized_of, sized_at, nullable_of, nullable_at, count_of, count_at}
 use Rattle.pc_batch.specs.Grammar.{IsSized, IsNullable}
 
 abbrev done : {A : Type 0} → A → Result A RecordKind

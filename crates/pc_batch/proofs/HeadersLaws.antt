@@ -1,16 +1,15 @@
 -- The headers that are read are of the grammar, and what is of the grammar is read.
-use Rattle.std.proofs.Common.{◌≡◌, ℕ, zero, suc, ◌+◌, ◌≤◌, Bool, true, false, cond, eqb, List, [], ◌∷◌, ◌++◌, length, Option, Result, Ok, Err, refl, sym, ap, subst, ◌∙◌, append_assoc, arith}
-use Rattle.std.specs.Prelude.{ℤ, pos}
+use Rattle.std.proofs.Common.{◌≡◌, ℕ, zero, suc, Bool, true, false, cond, eqb, List, [], ◌∷◌, ◌++◌, length, Option, Result, Ok, Err, refl, sym, ap, subst, ◌∙◌, append_assoc}
+use Rattle.std.specs.Prelude.{pos}
 use Rattle.std.proofs.lemmas.Bool.{eqb-true}
 use Rattle.std.proofs.lemmas.List.{append-nil, nil_from_length}
-use Rattle.pc_bytes.specs.Fields.{◌>>=◌}
 use Rattle.pc_bytes.specs.Varint.{IsVarint, SpelledBefore}
 use Rattle.pc_bytes.proofs.VarintLaws.{bind_ok}
 use Rattle.pc_batch.specs.declared.fault.RecordKind.{RecordKind}
 use Rattle.pc_batch.specs.declared.fault.RecordKind.TheVariants.{Past, HeaderKeyLength, HeaderValueLength, Leftover}
 use Rattle.pc_batch.specs.Fields.{sized_at, nullable_at, count_at}
 use Rattle.pc_batch.specs.Headers.{header_at, headers_at, all_headers_at}
-use Rattle.pc_batch.specs.Grammar.{IsSized, IsNullable, IsHeader, AreHeaders}
+use Rattle.pc_batch.specs.Grammar.{IsHeader, AreHeaders}
 use Rattle.pc_batch.proofs.FieldLaws.{ok_is, sized-takes, sized-again, nullable-takes, nullable-again, count-takes, count-again}
 
 abbrev Header : Type 0

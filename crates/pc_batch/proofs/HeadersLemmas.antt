@@ -5,7 +5,7 @@ use Rattle.pc_bytes.proofs.VarintLaws.{bind_ok}
 use Rattle.pc_batch.specs.declared.fault.RecordKind.{RecordKind}
 use Rattle.pc_batch.specs.declared.fault.RecordKind.TheVariants.{Leftover}
 use Rattle.pc_batch.specs.Fields.{count_at}
-use Rattle.pc_batch.specs.Headers.{header_at, headers_at, after_headers, all_headers_at, front_headers, and_on}
+use Rattle.pc_batch.specs.Headers.{header_at, headers_at, after_headers, all_headers_at, front_headers}
 
 abbrev Header : Type 0
 Header = List ℕ × Option (List ℕ)

@@ -1,26 +1,26 @@
 -- The records that are read are of the grammar, and what is of the grammar is read.
-use Rattle.std.proofs.Common.{◌≡◌, ℕ, zero, suc, ◌+◌, ◌<◌, ◌≤◌, Bool, true, false, cond, ltb, List, [], ◌∷◌, ◌++◌, length, drop, Option, Result, Ok, Err, refl, sym, ap, subst, ◌∙◌, append_assoc, arith}
+use Rattle.std.proofs.Common.{◌≡◌, ℕ, zero, suc, ◌+◌, ◌<◌, ◌≤◌, Bool, true, false, cond, ltb, List, [], ◌∷◌, ◌++◌, length, Result, Ok, Err, refl, sym, ap, subst, ◌∙◌, arith}
 use Rattle.std.specs.Prelude.{ℤ, pos, ◌+ℤ◌, IsTrue, ◌||◌}
 use Rattle.std.proofs.Common.{negsuc}
 use Rattle.std.proofs.lemmas.Bool.{ltb-false, le-ltb}
-use Rattle.std.proofs.lemmas.List.{append-nil, length-append}
+use Rattle.std.proofs.lemmas.List.{length-append}
 use Rattle.pc_model.specs.Record.{Record}
-use Rattle.pc_bytes.specs.Fields.{◌>>=◌, number_at}
-use Rattle.pc_bytes.specs.Varint.{IsVarint, IsVarlong, SpelledBefore}
+use Rattle.pc_bytes.specs.Fields.{◌>>=◌}
+use Rattle.pc_bytes.specs.Varint.{IsVarint, SpelledBefore}
 use Rattle.byteorder.specs.Endian.{big_number}
 use Rattle.pc_bytes.proofs.VarintLaws.{bind_ok, IsGroups-some}
 use Rattle.pc_batch.specs.declared.fault.RecordKind.{RecordKind}
-use Rattle.pc_batch.specs.declared.fault.RecordKind.TheVariants.{Time, Delta, Length, Past, KeyLength, ValueLength}
+use Rattle.pc_batch.specs.declared.fault.RecordKind.TheVariants.{Time, Delta, Length, KeyLength, ValueLength}
 use Rattle.pc_batch.specs.declared.frame.Times.{Times}
 use Rattle.pc_batch.specs.declared.frame.Times.TheVariants as times
 use Rattle.pc_batch.specs.declared.frame.Frame.{Frame}
 use Rattle.pc_batch.specs.Fields.{byte_at, int_at, long_at, sized_at, nullable_at}
 use Rattle.pc_batch.specs.Headers.{all_headers_at}
-use Rattle.pc_batch.specs.Grammar.{IsSized, IsNullable, IsTime, IsBody, IsRecord, AreRecords}
+use Rattle.pc_batch.specs.Grammar.{IsTime, IsBody, IsRecord, AreRecords}
 use Rattle.pc_batch.specs.Record.{fits_64, time_of, offset_of, body_at, record_at}
 use Rattle.pc_batch.specs.Records.{told_at, records_at}
-use Rattle.pc_batch.proofs.FieldLaws.{ok_is, or_kind-ok, int-takes, int-again, long-takes, long-again, sized-takes, sized-again, nullable-takes, nullable-again}
-use Rattle.pc_batch.proofs.HeadersLaws.{AreAllHeaders, all_headers-takes, all_headers-again}
+use Rattle.pc_batch.proofs.FieldLaws.{ok_is, int-takes, int-again, long-takes, long-again, sized-takes, sized-again, nullable-takes, nullable-again}
+use Rattle.pc_batch.proofs.HeadersLaws.{all_headers-takes, all_headers-again}
 use Rattle.pc_batch.proofs.RecordsLemmas.{record_at-shorter, and_one, all_is}
 
 -- ---- the attributes
@@ -77,6 +77,10 @@ offset-again frame least moved offset is above within =
 
 -- ---- the fields
 
+-- a byte and six texts, each behind the one before
+joined : (bytes a b c d e : List ℕ) (x : ℕ) (s t u v w y : List ℕ) → bytes ≡ x ∷ a → a ≡ s ++ b → b ≡ t ++ c → c ≡ u ++ d → d ≡ v ++ e → e ≡ w ++ y → bytes ≡ x ∷ (s ++ (t ++ (u ++ (v ++ (w ++ y)))))
+joined bytes a b c d e x s t u v w y ia ib ic id ie iy = rw (ia, ib, ic, id, ie, iy) refl
+
 pub body-takes : (frame : Frame) (least : ℕ) (bytes : List ℕ) (r : Record) → body_at frame least bytes ≡ Ok r → IsBody frame least bytes r
 unfolding body_at
 body-takes frame least bytes r e =
@@ -103,12 +107,7 @@ body-takes frame least bytes r e =
       value = is_value.text;
       count = are.count;
       headers = are.headers;
-      parts = first.1
-          ∙ ap (λ (l : List ℕ). first.0 ∷ l) is_stamp.parts
-          ∙ ap (λ (l : List ℕ). first.0 ∷ (is_stamp.text ++ l)) is_delta.parts
-          ∙ ap (λ (l : List ℕ). first.0 ∷ (is_stamp.text ++ (is_delta.text ++ l))) is_key.parts
-          ∙ ap (λ (l : List ℕ). first.0 ∷ (is_stamp.text ++ (is_delta.text ++ (is_key.text ++ l)))) is_value.parts
-          ∙ ap (λ (l : List ℕ). first.0 ∷ (is_stamp.text ++ (is_delta.text ++ (is_key.text ++ (is_value.text ++ l))))) are.parts;
+      parts = joined bytes attributes.0.1 stamp.0.1 delta.0.1 key.0.1 value.0.1 first.0 is_stamp.text is_delta.text is_key.text is_value.text are.count are.headers first.1 is_stamp.parts is_delta.parts is_key.parts is_value.parts are.parts;
       stamped = stamp.0.0;
       is_stamp = is_stamp.spelled;
       is_time = time-takes frame.times stamp.0.0 time.0 time.1;
@@ -128,14 +127,16 @@ pub body-again : (frame : Frame) (least : ℕ) (bytes : List ℕ) (r : Record) �
 unfolding body_at
 body-again frame least bytes r is =
     ap (body_at frame least) is.parts
-    ∙ rw (byte_at-cons is.attributes (is.stamp ++ (is.delta ++ (is.key ++ (is.value ++ (is.count ++ is.headers))))),
-        long-again is.stamp (is.delta ++ (is.key ++ (is.value ++ (is.count ++ is.headers)))) is.stamped is.is_stamp,
-        time-again frame.times is.stamped r.time is.is_time,
-        int-again is.delta (is.key ++ (is.value ++ (is.count ++ is.headers))) (pos is.moved) is.is_delta,
-        offset-again frame least is.moved r.offset is.is_offset is.above is.within,
-        nullable-again KeyLength is.key (is.value ++ (is.count ++ is.headers)) r.key is.is_key,
-        nullable-again ValueLength is.value (is.count ++ is.headers) r.value is.is_value,
-        all_headers-again is.count is.headers r.headers is.is_count is.are_headers)
+    ∙ rw (
+      byte_at-cons is.attributes (is.stamp ++ (is.delta ++ (is.key ++ (is.value ++ (is.count ++ is.headers))))),
+      long-again is.stamp (is.delta ++ (is.key ++ (is.value ++ (is.count ++ is.headers)))) is.stamped is.is_stamp,
+      time-again frame.times is.stamped r.time is.is_time,
+      int-again is.delta (is.key ++ (is.value ++ (is.count ++ is.headers))) (pos is.moved) is.is_delta,
+      offset-again frame least is.moved r.offset is.is_offset is.above is.within,
+      nullable-again KeyLength is.key (is.value ++ (is.count ++ is.headers)) r.key is.is_key,
+      nullable-again ValueLength is.value (is.count ++ is.headers) r.value is.is_value,
+      all_headers-again is.count is.headers r.headers is.is_count is.are_headers,
+    )
     refl
 
 -- ---- one record, and all of them

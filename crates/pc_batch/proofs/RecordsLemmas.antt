@@ -1,5 +1,5 @@
 -- Reading records one after the other, as the iterator and the count do.
-use Rattle.std.proofs.Common.{◌≡◌, ℕ, zero, suc, ◌+◌, ◌-◌, ◌<◌, ◌≤◌, List, [], ◌∷◌, ◌++◌, length, drop, length-drop, Option, Result, Ok, Err, refl, sym, ap, ◌∙◌, arith}
+use Rattle.std.proofs.Common.{◌≡◌, ℕ, zero, suc, ◌+◌, ◌-◌, ◌<◌, ◌≤◌, List, [], ◌∷◌, length, Result, Ok, Err, refl, sym, ap, ◌∙◌, arith}
 use Rattle.pc_model.specs.Record.{Record}
 use Rattle.pc_bytes.specs.Fields.{◌>>=◌}
 use Rattle.pc_bytes.proofs.VarintLaws.{bind_ok}
@@ -10,7 +10,6 @@ use Rattle.pc_batch.specs.declared.fault.BatchFault.{BatchFault}
 use Rattle.pc_batch.specs.declared.fault.BatchFault.TheVariants.{BadRecord}
 use Rattle.pc_batch.specs.declared.frame.Frame.{Frame}
 use Rattle.pc_batch.specs.Fields.{sized_at}
-use Rattle.pc_batch.specs.Grammar.{IsSized}
 use Rattle.pc_batch.specs.Record.{body_at, record_at}
 use Rattle.pc_batch.specs.Records.{told_at, records_at, front_records, and_on, counted}
 use Rattle.pc_batch.proofs.FieldLaws.{ok_is, sized-takes}

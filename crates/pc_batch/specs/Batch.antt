@@ -158,6 +158,10 @@ batch_at at bytes = do
   counted ← same_count (record_count text) records
   Ok (record { contents = record { base = frame.base; last = frame.last; control = is_control text; records = counted }; end = at + length text })
 
+-- the batch that begins at a place of the log, or its first fault
+abbrev pub batch_from : List ℕ → ℕ → Result Placed BatchFault
+batch_from log at = batch_at at (drop at log)
+
 -- the first fault of what begins at a place of the log, if there is one
 unfoldable pub batch_fault : List ℕ → ℕ → Option BatchFault
-batch_fault log at = result_err (batch_at at (drop at log))
+batch_fault log at = result_err (batch_from log at)

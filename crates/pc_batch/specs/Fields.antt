@@ -1,5 +1,5 @@
 -- The fields of a record, from left to right: a value and the bytes after it, or the record's fault.
-use Rattle.std.specs.Prelude.{◌≡◌, ℕ, zero, suc, ◌+◌, ℤ, pos, List, [], ◌∷◌, length, take, drop, Option, Some, None, Result, Ok, Err, nat_lt, if◌then◌else◌}
+use Rattle.std.specs.Prelude.{◌≡◌, ℕ, zero, suc, ℤ, pos, List, length, take, drop, Option, Some, None, Result, Ok, Err, nat_lt, if◌then◌else◌}
 use Rattle.std.proofs.Common.{negsuc}
 use Rattle.pc_bytes.specs.Fields.{Gap, ◌>>=◌, number_at}
 use Rattle.pc_bytes.specs.Varint.{varint_at, varlong_at}

@@ -1,5 +1,5 @@
 -- One record, from left to right, by what its batch says of each.
-use Rattle.std.specs.Prelude.{◌≡◌, ◌≤◌, ◌<◌, ◌^◌, ℕ, ◌+◌, ℤ, pos, ◌+ℤ◌, Bool, List, length, Option, Result, Ok, Err, nat_lt, ◌||◌, if◌then◌else◌}
+use Rattle.std.specs.Prelude.{◌≤◌, ◌<◌, ◌^◌, ℕ, ◌+◌, ℤ, pos, ◌+ℤ◌, Bool, List, Result, Ok, Err, nat_lt, ◌||◌, if◌then◌else◌}
 use Rattle.std.proofs.Common.{negsuc}
 use Rattle.std.specs.Option.{option_copied}
 use Rattle.pc_model.specs.Record.{Record}

@@ -1,5 +1,5 @@
 -- The records of a batch, one after the other up to the end of the bytes, their offsets rising.
-use Rattle.std.specs.Prelude.{◌≡◌, ℕ, zero, suc, ◌+◌, ◌-◌, List, [], ◌∷◌, length, Result, Ok, Err}
+use Rattle.std.specs.Prelude.{ℕ, zero, suc, ◌+◌, ◌-◌, List, [], ◌∷◌, length, Result, Ok, Err}
 use Rattle.pc_model.specs.Record.{Record}
 use Rattle.pc_bytes.specs.Fields.{◌>>=◌}
 use Rattle.pc_batch.specs.declared.fault.RecordKind.{RecordKind}

@@ -1,7 +1,7 @@
 //! A batch, read in place.
 
-ghost use Rattle.std.specs.Prelude.{◌≡◌, ◌+◌, ◌<◌, ◌^◌, ℕ, List, Some, None, drop, length, IfOk, IfErr, OnOk};
-ghost use Rattle.pc_batch.specs.Batch.{Placed, given_by, batch_at, batch_fault, IsBatchAt};
+ghost use Rattle.std.specs.Prelude.{◌≡◌, ◌+◌, ◌<◌, ◌^◌, ℕ, List, Some, None, Ok, drop, length, IfOk, IfErr, OnOk};
+ghost use Rattle.pc_batch.specs.Batch.{Placed, given_by, batch_at, batch_from, batch_fault, IsBatchAt};
 
 use crate::fault::BatchFault;
 use crate::frame::Frame;
@@ -15,11 +15,12 @@ pub struct Batch<'a> {
     frame: Frame,
     control: bool,
     records: &'a [u8],
+    found: u32,
     end: u64,
 }
 
 impl<'a> Model for Batch<'a> {
-    ghost use Rattle.std.specs.Prelude.{length};
+    ghost use Rattle.std.specs.Prelude.{◌≡◌, length};
     ghost use Rattle.pc_batch.specs.Batch.{Placed};
 
     ghost Value = { Placed };
@@ -28,16 +29,16 @@ impl<'a> Model for Batch<'a> {
     ghost use Rattle.pc_batch.specs.Records.{front_records};
 
     ghost view = { λ b. record {
-        contents = record {
-            base = b.frame.base;
-            last = b.frame.last;
-            control = b.control;
-            records = front_records (length b.records.now) b.frame b.frame.base b.records.now
-        };
-        end = b.end
+      contents = record {
+        base = b.frame.base;
+        last = b.frame.last;
+        control = b.control;
+        records = front_records (length b.records.now) b.frame b.frame.base b.records.now;
+      };
+      end = b.end;
     } };
 
-    ghost invariant = { λ b. IsSound b.frame };
+    ghost invariant = { λ b. IsSound b.frame × (b.found ≡ length (front_records (length b.records.now) b.frame b.frame.base b.records.now)) };
 }
 
 impl<'a> Batch<'a> {
@@ -50,6 +51,13 @@ impl<'a> Batch<'a> {
         } else {
             Records::new(self.frame, self.records)
         }
+    }
+
+    /// How many records the batch gives.
+    pub fn count(&self) -> u32
+        ensures { result ≡ length (given_by self.now.contents) }
+    {
+        if self.control { 0 } else { self.found }
     }
 
     /// The place after the batch.
@@ -94,6 +102,7 @@ fn batch_of<'a>(at: u64, bytes: &'a [u8]) -> Result<Batch<'a>, BatchFault>
         frame,
         control: header::is_control(text),
         records,
+        found,
         end: at + text.len() as u64,
     })
 }
@@ -112,6 +121,7 @@ pub fn read_batch<'a>(bytes: &'a [u8], at: u64) -> Result<Batch<'a>, BatchFault>
     // What is read is a batch, and a batch is read.
     ensures found { IfOk result (λ b. IsBatchAt bytes.now at b) }
     ensures only { (batch : Placed) → IsBatchAt bytes.now at batch → result ≡ Ok batch }
+    ensures value { IfOk result (λ b. batch_from bytes.now at ≡ Ok b) }
     // Which fault it is.
     ensures sound { OnOk result (batch_fault bytes.now at ≡ None) }
     ensures fault { IfErr result (λ f. batch_fault bytes.now at ≡ Some f) }

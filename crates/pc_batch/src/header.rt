@@ -24,13 +24,21 @@ const OFFSET_LIMIT: u64 = (1 << 63) - 1;
 
 // The places of the fields.
 const BASE_OFFSET: usize = 0;
+
 const LENGTH: usize = 8;
+
 const MAGIC: usize = 16;
+
 const CRC: usize = 17;
+
 const ATTRIBUTES: usize = 21;
+
 const LAST_DELTA: usize = 23;
+
 const BASE_TIME: usize = 27;
+
 const MAX_TIME: usize = 35;
+
 const COUNT: usize = 57;
 
 fn i32_at(bytes: &[u8], at: usize) -> i32

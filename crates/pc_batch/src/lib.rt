@@ -34,3 +34,6 @@ pub use fault::{BatchFault, RecordKind};
 pub use headers::Headers;
 pub use record::RecordRef;
 pub use records::Records;
+
+#[cfg(test)]
+mod tests;

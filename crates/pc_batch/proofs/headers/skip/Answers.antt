@@ -1,6 +1,4 @@
-use Rattle.std.specs.Prelude.{IfErr}
 use Rattle.std.proofs.lemmas.Result.{err_from_is_err_and}
-use Rattle.pc_batch.specs.Headers.{after_headers}
 use Rattle.pc_batch.proofs.HeadersLemmas.{skips_one, skip_fails, skipped_all}
 use Rattle.pc_batch.proofs.headers.skip.Goals as goal
 

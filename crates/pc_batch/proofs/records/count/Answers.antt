@@ -1,5 +1,4 @@
-use Rattle.std.proofs.Common.{◌≡◌, ◌<◌, ◌≤◌, ◌+◌, ◌-◌, ℕ, Result, Err, ap, sym, ◌∙◌, length, arith}
-use Rattle.pc_batch.specs.declared.fault.BatchFault.{BatchFault}
+use Rattle.std.proofs.Common.{◌≡◌, ◌<◌, ◌≤◌, ◌+◌, ◌-◌, Err, ap, sym, ◌∙◌, length, arith}
 use Rattle.pc_batch.specs.declared.fault.BatchFault.TheVariants.{BadRecord}
 use Rattle.pc_batch.specs.Record.{plain}
 use Rattle.pc_batch.proofs.RecordsLemmas.{counts-one, count-fails, counted-all, record_at-shorter}

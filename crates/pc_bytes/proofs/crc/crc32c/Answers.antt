@@ -1,4 +1,4 @@
-use Rattle.std.proofs.Common.{◌∙◌, ap, bit_xor, refl}
+use Rattle.std.proofs.Common.{◌∙◌, ap, bit_xor}
 use Rattle.pc_bytes.specs.Crc.{crc32c_of, with_bytes}
 use Rattle.pc_bytes.proofs.CrcLemmas.{with_bytes-block}
 use Rattle.pc_bytes.proofs.crc.crc32c.Goals as goal

@@ -1,4 +1,4 @@
-use Rattle.std.proofs.Common.{◌∙◌, ◌≤◌, sym, ap, length, drop, arith, refl}
+use Rattle.std.proofs.Common.{◌∙◌, ◌≤◌, sym, ap, length, arith}
 use Rattle.std.proofs.lemmas.List.{drop_all}
 use Rattle.pc_bytes.specs.Crc.{with_bytes}
 use Rattle.pc_bytes.proofs.CrcLemmas.{with_bytes-step, no_bytes}

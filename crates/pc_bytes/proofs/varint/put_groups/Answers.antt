@@ -1,4 +1,4 @@
-use Rattle.std.proofs.Common.{arith, ◌≤◌, ◌<◌, ◌%◌, ◌+◌, ◌≡◌, length, ap, subst, ◌∙◌, ◌++◌, set, length-set, take, List, ℕ, Result, Ok, Err, cond, ◌/◌, ◌-◌}
+use Rattle.std.proofs.Common.{arith, ◌≤◌, ◌<◌, ◌%◌, ◌+◌, ◌≡◌, length, ap, ◌∙◌, ◌++◌, set, length-set, take, List, ℕ, Result, Ok, Err, cond, ◌/◌, ◌-◌}
 use Rattle.std.specs.Prelude.{OnOk, is_ok}
 use Rattle.pc_bytes.specs.Varint.{groups_of}
 use Rattle.pc_bytes.proofs.PutLemmas.{put-step, put-last, left-step}

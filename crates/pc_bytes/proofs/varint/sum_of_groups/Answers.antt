@@ -1,4 +1,4 @@
-use Rattle.std.proofs.Common.{arith, ap, add-one}
+use Rattle.std.proofs.Common.{arith, add-one}
 use Rattle.std.proofs.Math.Nat.{pow-succ'}
 use Rattle.pc_bytes.proofs.VarintLemmas.{step-lt, step-is}
 use Rattle.pc_bytes.proofs.varint.sum_of_groups.Goals as goal

@@ -1,8 +1,7 @@
-use Rattle.std.proofs.Common.{ℕ, ◌^◌, ◌≡◌, ◌++◌, ◌∙◌, ap, subst, rules}
+use Rattle.std.proofs.Common.{ℕ, ◌^◌, ◌≡◌, ◌++◌, ◌∙◌, ap, subst}
 use Rattle.std.specs.Prelude.{OnOk}
 use Rattle.std.proofs.lemmas.Int.{to_z-of_z}
-use mir.Val.{SFits}
-use mir.Syntax.{w32, w64}
+use mir.Syntax.{w64}
 use Rattle.pc_bytes.specs.Varint.{zigzag_of, shortest_of, groups_of}
 use Rattle.pc_bytes.proofs.VarintLaws.{IsVarlong-shortest_of, shortest_of-least, varlong_at-again, zigzag_of-lt_64}
 use Rattle.pc_bytes.proofs.varint.write_varlong.Goals as goal

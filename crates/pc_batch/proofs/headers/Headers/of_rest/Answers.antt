@@ -1,8 +1,7 @@
-use Rattle.std.proofs.Common.{◌≡◌, ap, sym, ◌∙◌, Ok, refl, arith}
+use Rattle.std.proofs.Common.{ap, sym, ◌∙◌, arith}
 use Rattle.std.proofs.lemmas.Result.{err_from_is_err_and}
-use Rattle.pc_batch.specs.Headers.{after_headers, front_headers}
+use Rattle.pc_batch.specs.Headers.{after_headers}
 use Rattle.pc_batch.specs.Headers.{headers_left}
-use Rattle.pc_batch.specs.Fields.{count_at}
 use Rattle.pc_batch.proofs.HeadersLemmas.{all-uncounted, all-fails, all-leftover, all-is}
 use Rattle.pc_batch.proofs.headers.Headers.of_rest.Goals as goal
 

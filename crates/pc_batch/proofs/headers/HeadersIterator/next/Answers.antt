@@ -1,5 +1,5 @@
-use Rattle.std.proofs.Common.{◌≡◌, ap, sym, ◌∙◌, ◌-◌, length, arith, rules}
-use Rattle.pc_batch.specs.Headers.{header_at, front_headers}
+use Rattle.std.proofs.Common.{ap, sym, ◌∙◌, length, rules}
+use Rattle.pc_batch.specs.Headers.{header_at}
 use Rattle.pc_batch.specs.Headers.{headers_left}
 use Rattle.pc_batch.proofs.HeadersLemmas.{front-none, front-fails, front-step}
 use Rattle.pc_batch.proofs.headers.HeadersIterator.next.Goals as goal

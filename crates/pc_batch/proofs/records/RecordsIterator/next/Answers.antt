@@ -1,4 +1,4 @@
-use Rattle.std.proofs.Common.{◌≡◌, ◌+◌, ◌∷◌, ap, sym, ◌∙◌, length, arith, rules}
+use Rattle.std.proofs.Common.{◌+◌, ◌∷◌, ap, sym, ◌∙◌, length, rules}
 use Rattle.pc_batch.specs.Record.{record_at, plain}
 use Rattle.pc_batch.specs.Records.{front_records}
 use Rattle.pc_batch.proofs.RecordsLemmas.{front-fails, front-step}
@@ -24,7 +24,7 @@ returns-clause-goes c =
     let s = c.self.inside in
     let e = ap (λ r. record_at s.frame s.least r.bytes) (sym c.new-reader.ensures) ∙ c.in-Ok.ensures.value in
     let step = sym c.self.view_is
-        ∙ front-step s.frame s.least s.bytes.now (plain c.in-Ok.record, c.next.new.reader.bytes) e
-        ∙ ap (λ b. plain c.in-Ok.record ∷ front_records (length b) s.frame (c.in-Ok.record.offset + 1) b) (sym c.rest-self-inside.ensures) in
+    ∙ front-step s.frame s.least s.bytes.now (plain c.in-Ok.record, c.next.new.reader.bytes) e
+    ∙ ap (λ b. plain c.in-Ok.record ∷ front_records (length b) s.frame (c.in-Ok.record.offset + 1) b) (sym c.rest-self-inside.ensures) in
     let shorter = ap length step in
     search rules
