@@ -91,7 +91,11 @@ pub record IsNextRun (bits : List Bool) (i place start size : ℕ) : Type 0 wher
   pub within : start + size ≤ length bits
   pub ones : take start bits ≡ take place bits ++ replicate (start - place) true
   pub zeros : take (start + size) bits ≡ take start bits ++ replicate size false
+  pub rest_ones : drop place bits ≡ replicate (start - place) true ++ drop start bits
+  pub rest_zeros : drop start bits ≡ replicate size false ++ drop (start + size) bits
   pub next : IsAtRun bits (i + 1) (start + size)
+  pub apart : AreRuns (start + size + 1) (length bits) (drop (i + 1) (zero_runs bits))
+  pub same : drop i (zero_runs bits) ≡ (start, size) ∷ drop (i + 1) (zero_runs bits)
 
 -- the walk begins before the first run
 pub IsAtRun-start : (bits : List Bool) → IsAtRun bits 0 0
@@ -108,7 +112,7 @@ drop-slice_get (y ∷ ys) zero x is = let same : y ≡ x = cc is in rw same refl
 drop-slice_get (y ∷ ys) (suc i) x is = drop-slice_get ys i x is
 
 -- a list after its last element
-drop-slice_get_none : {X : Type 0} (xs : List X) (i : ℕ) → slice_get xs i ≡ None → drop i xs ≡ []
+pub drop-slice_get_none : {X : Type 0} (xs : List X) (i : ℕ) → slice_get xs i ≡ None → drop i xs ≡ []
 drop-slice_get_none [] zero is = refl
 drop-slice_get_none [] (suc i) is = refl
 drop-slice_get_none (y ∷ ys) zero is = cc is
@@ -150,6 +154,10 @@ IsNextRun-at bits i place start size at is =
       within = are.2;
       ones = rw gap at ones.0;
       zeros = zeros.0;
+      rest_ones = rw ones_at rest;
+      rest_zeros = rw zeros.1 ones_at;
+      apart = rw (← next) are.3;
+      same = rw (← next) runs;
       next = record {
         rest = rw (← next) zeros.1;
         in_order = rw (← next) (AreRuns-lower (start + size) (start + size + 1) (length bits) later (omega arith) are.3);
