@@ -1,5 +1,5 @@
 -- The first line of a text and the first word of a line, with what is left.
-use Rattle.std.proofs.Common.{◌≡◌, ℕ, ◌<◌, ◌≤◌, Bool, true, false, not, cond, List, [], ◌∷◌, length, get_or, drop, Some, None, refl, sym, ap, subst, ◌∙◌, inl, inr, add-one, one-add, add-zero, arith}
+use Rattle.std.proofs.Common.{◌≡◌, ℕ, ◌+◌, ◌<◌, ◌≤◌, Bool, true, false, not, cond, List, [], ◌∷◌, length, get_or, drop, Some, None, refl, sym, ap, subst, ◌∙◌, inl, inr, add-one, one-add, add-zero, arith}
 use Rattle.std.specs.Prelude.{filter, position}
 use Rattle.std.specs.Iterator.{MakesProgress, item_count}
 use Rattle.std.specs.List.{before_first, after_first, position_or_len, onto_first, All}
@@ -41,6 +41,20 @@ lines_of-first b (c ∷ text) =
     elim (cases_Bool (is_feed b)) [
       | inl feed ↦ rw (before_first-pass is_feed b (c ∷ text) feed, after_first-pass is_feed b (c ∷ text) feed, feed) refl
       | inr other ↦ rw (before_first-fail is_feed b (c ∷ text) other, after_first-fail is_feed b (c ∷ text) other, other) (ap (onto_first b) (lines_of-first c text))
+    ]
+
+length-onto_first-le : (b : ℕ) (lines : List (List ℕ)) → length (onto_first b lines) ≤ length lines + 1
+length-onto_first-le b [] = omega arith
+length-onto_first-le b (line ∷ lines) = omega arith
+
+-- no more lines than bytes
+pub length-lines_of-le : (text : List ℕ) → length (lines_of text) ≤ length text
+length-lines_of-le [] = omega arith
+length-lines_of-le (b ∷ text) =
+    let others = length-lines_of-le text in
+    elim (cases_Bool (is_feed b)) [
+      | inl feed ↦ rw feed (omega arith)
+      | inr other ↦ rw other (let longer = length-onto_first-le b (lines_of text) in omega arith)
     ]
 
 -- ---- words

@@ -1,6 +1,6 @@
 //! Where a text is cut into lines, and a line into words.
 
-ghost use Rattle.std.specs.Prelude.{◌≡◌, ◌==◌, position};
+ghost use Rattle.std.specs.Prelude.{◌≡◌, ◌==◌, ◌≤◌, length, position};
 ghost use Rattle.std.specs.List.{before_first, after_first};
 ghost use Rattle.pc_lines.specs.Pieces.{lines_of, words_of};
 
@@ -10,7 +10,8 @@ use crate::word::Words;
 /// The lines of a text: the pieces that line feeds end, without them. A last piece without a line
 /// feed is a line too, unless it is empty. Takes no memory.
 pub fn lines(bytes: &[u8]) -> Lines<'_>
-    ensures { result ≡ lines_of bytes.now }
+    ensures lines { result ≡ lines_of bytes.now }
+    ensures few { length result ≤ length bytes.now }
 {
     Lines::new(bytes)
 }
