@@ -11,3 +11,6 @@ mod version;
 
 pub use pc_model::BitsFault;
 pub use version::{decode_v1, decode_v2, encode_v1, encode_v2, length_v1, length_v2};
+
+#[cfg(test)]
+mod tests;

@@ -13,6 +13,7 @@ use std::alloc::{AllocError, Global};
 
 // The bytes of the number.
 const WIDTH_1: usize = 2;
+
 const WIDTH_2: usize = 4;
 
 /// How many bytes version 1 has. None where it cannot hold the bits: above 32,767 of them.
@@ -84,7 +85,8 @@ fn length(bits: &Bits, width: usize) -> Option<u64>
 fn encode(alloc: Global, bits: &Bits, width: usize) -> Result<Option<Vec<u8>>, AllocError>
     requires some { 1 ≤ width }
     requires few { width ≤ 4 }
-    ensures { IfOk result (λ bytes. option_map (λ v. v.items) bytes ≡ bitset_spelling width bits.now) }
+    ensures { IfOk result
+        (λ bytes. option_map (λ v. v.items) bytes ≡ bitset_spelling width bits.now) }
 {
     let count = bits.count();
     if !number::fits(width, count) {

@@ -20,8 +20,8 @@ pub struct Choice {
     pub size: u32,
 }
 
-/// The shortest text among the encodings that can hold the bits. Ties go to `l`, `n`, `o` and `e` in
-/// this order. A text of more than `limit` characters is left out whole.
+/// The shortest text among the encodings that can hold the bits. Ties go to `l`, `n`, `o` and `e`
+/// in this order. A text of more than `limit` characters is left out whole.
 ///
 /// The sizes are compared before anything is spelled, and only the chosen encoding is spelled.
 pub fn choose(alloc: Global, bits: &Bits, limit: u32) -> Result<Choice, AllocError>

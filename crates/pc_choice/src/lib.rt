@@ -6,3 +6,6 @@ mod sizes;
 mod text;
 
 pub use choice::{Choice, choose, pressed};
+
+#[cfg(test)]
+mod tests;

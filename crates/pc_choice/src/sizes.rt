@@ -10,8 +10,9 @@ use pc_model::{BITSET, BITSET_2, Bits, RUN_LENGTH, RUN_LENGTH_2};
 // The most bytes after the letter whose text has at most 4,294,967,294 characters.
 const MOST_BYTES: u64 = 3_221_225_468;
 
-/// The letter of the shortest text and how many characters that has. None where no encoding can hold
-/// the bits in at most 4,294,967,294 characters. Ties go to `l`, `n`, `o` and `e` in this order.
+/// The letter of the shortest text and how many characters that has. None where no encoding can
+/// hold the bits in at most 4,294,967,294 characters. Ties go to `l`, `n`, `o` and `e` in this
+/// order.
 pub fn shortest(bits: &Bits) -> Option<(u8, u32)>
     ensures { result ≡ option_map sized (shortest_text bits.now) }
 {

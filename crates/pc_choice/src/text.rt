@@ -11,7 +11,8 @@ use std::alloc::{AllocError, Global};
 
 /// The text of the bits. None where the letter's encoding cannot hold them.
 pub fn spelled(alloc: Global, letter: u8, bits: &Bits) -> Result<Option<MapText>, AllocError>
-    ensures { IfOk result (λ text. text ≡ option_map (map_text letter) (spelling_of letter bits.now)) }
+    ensures { IfOk result
+        (λ text. text ≡ option_map (map_text letter) (spelling_of letter bits.now)) }
 {
     let Some(body) = encode(alloc, letter, bits)? else {
         return Ok(None);

@@ -7,3 +7,6 @@ mod reading;
 pub use map::OffsetMap;
 pub use pc_model::MapFault;
 pub use reading::read_map;
+
+#[cfg(test)]
+mod tests;

@@ -56,7 +56,8 @@ fn decode(alloc: Global, text: &[u8]) -> Result<Vec<u8>, MapFault>
 /// The bits of the bytes after a letter.
 fn read_bits(alloc: Global, letter: u8, body: &[u8]) -> Result<Bits, MapFault>
     ensures bits { IfOk result (λ bits. letter_reading 0 letter body.now ≡ Ok (Some bits)) }
-    ensures fault { IfErr result (λ e. (e ≡ NoMemory) ⊎ (letter_reading 0 letter body.now ≡ Err e)) }
+    ensures fault { IfErr result (λ e. (e ≡ NoMemory)
+        ⊎ (letter_reading 0 letter body.now ≡ Err e)) }
 {
     let bits = match letter {
         b'a' | b'J' | b's' | b'p' => return Err(MapFault::Compressed(letter)),
