@@ -1,5 +1,5 @@
 -- The best map by the sizes of the texts.
-use Rattle.std.proofs.Common.{◌≡◌, ℕ, ◌<◌, ◌≤◌, Bool, List, [], ◌∷◌, length, refl, sym, ap, ◌∙◌, arith, inl, inr}
+use Rattle.std.proofs.Common.{◌≡◌, ◌↔◌, ℕ, ◌<◌, ◌≤◌, Bool, List, [], ◌∷◌, length, refl, sym, ap, ◌∙◌, arith, inl, inr}
 use Rattle.std.proofs.lemmas.Bool.{cases_Bool, le-leb, lt-leb}
 use Rattle.std.proofs.lemmas.Option.{some_pair_parts}
 use Rattle.std.specs.Option.{IfSome, option_map}
@@ -10,7 +10,7 @@ use Rattle.std.specs.declared.option.Option.TheVariants.{None, Some}
 use Rattle.std.specs.declared.result.Result.{Result}
 use Rattle.std.specs.declared.result.Result.TheVariants.{Ok, Err}
 use Rattle.pc_model.proofs.BestMapLemmas.{length-map_text, size-best_map}
-use Rattle.pc_model.specs.BestMap.{best_map, limited, map_text, shorter, shortest_text, spelled_text, text_of}
+use Rattle.pc_model.specs.BestMap.{BestMap, best_map, limited, map_text, shorter, shortest_text, spelled_text, text_of}
 use Rattle.pc_model.specs.MapSpelling.{spelling_of}
 use Rattle.pc_choice.specs.Sizes.{sized, smaller_size, text_size}
 
@@ -138,6 +138,37 @@ spelled-some bits letter size is none =
     let best = shortest_text-spelled bits letter size is in let wrong = rw best.1 at none in cc wrong
 
 -- ---- the laws of a choice
+
+-- a best map has no letter
+abbrev HasNoLetter : BestMap → Type 0
+HasNoLetter best = (best.letter ≡ None) ↔ (best.text ≡ [])
+
+-- a text that was spelled is not empty
+HasNoLetter-limited : (bits : List Bool) (limit : ℕ) (best : Option (ℕ × List ℕ)) → IsSpelled bits best → HasNoLetter (limited limit best)
+HasNoLetter-limited bits limit None spelled = (λ h. refl, λ h. refl)
+HasNoLetter-limited bits limit (Some (letter, text)) (bytes, spelling, is) = elim (cases_Bool (nat_le (length text) limit)) [
+  | inl fits ↦
+      let filled : text ≡ [] → ⊥ = λ (empty : text ≡ []).
+      (let len = length-map_text letter bytes in
+      let same : length text ≡ length (map_text letter bytes) = ap length is in
+      let none : length text ≡ 0 = ap length empty in
+      omega (arith, len, same, none)) in
+      rw fits (λ h. cc h, λ h. absurd (filled h))
+  | inr long ↦ rw long (λ h. refl, λ h. refl)
+]
+
+-- the best map has no letter exactly where its text is empty
+pub HasNoLetter-best_map : (bits : List Bool) (limit : ℕ) → HasNoLetter (best_map bits limit)
+unfolding best_map
+HasNoLetter-best_map [] limit = (λ h. refl, λ h. refl)
+HasNoLetter-best_map (bit ∷ bits) limit = HasNoLetter-limited (bit ∷ bits) limit (shortest_text (bit ∷ bits)) (IsSpelled-shortest_text (bit ∷ bits))
+
+-- a choice that is the best map has no letter exactly where its text is empty
+pub no_letter : {X E : Type 0} (letter : X → Option ℕ) (text : X → List ℕ) (bits : List Bool) (limit : ℕ) (result : Result X E)
+    → IfOk result (λ choice. letter choice ≡ (best_map bits limit).letter) → IfOk result (λ choice. text choice ≡ (best_map bits limit).text)
+    → IfOk result (λ choice. (letter choice ≡ None) ↔ (text choice ≡ []))
+no_letter letter text bits limit (Ok choice) letter_is text_is = rw (letter_is, text_is) (HasNoLetter-best_map bits limit)
+no_letter letter text bits limit (Err e) letter_is text_is = tt
 
 -- no other text is shorter
 pub no_shorter_text : {X E : Type 0} (size : X → ℕ) (bits : List Bool) (limit : ℕ) (result : Result X E) → IfOk result (λ choice. size choice ≡ (best_map bits limit).size)

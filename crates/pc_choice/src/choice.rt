@@ -1,6 +1,6 @@
 //! The best map of completion bits.
 
-ghost use Rattle.std.specs.Prelude.{◌≡◌, ◌≤◌, ◌+◌, ◌^◌, ◌<◌, ℕ, List, length, [], None, Some, Ok, IsSome, IfOk};
+ghost use Rattle.std.specs.Prelude.{◌≡◌, ◌≤◌, ◌+◌, ◌^◌, ◌<◌, ◌↔◌, ℕ, List, length, [], None, Some, Ok, IsSome, IfOk};
 ghost use Rattle.pc_model.specs.BestMap.{best_map, is_pressed, text_of};
 ghost use Rattle.pc_model.specs.MapReading.{map_reading};
 
@@ -28,6 +28,8 @@ pub fn choose(alloc: Global, bits: &Bits, limit: u32) -> Result<Choice, AllocErr
     ensures letter { IfOk result (λ choice. choice.letter ≡ (best_map bits.now limit).letter) }
     ensures text { IfOk result (λ choice. choice.text ≡ (best_map bits.now limit).text) }
     ensures size { IfOk result (λ choice. choice.size ≡ (best_map bits.now limit).size) }
+
+    ensures empty { IfOk result (λ choice. (choice.letter ≡ None) ↔ (choice.text ≡ [])) }
 
     // No other text of the bits is shorter.
     ensures shortest { IfOk result (λ choice. (letter : ℕ) (other : ℕ × List ℕ)

@@ -2,7 +2,7 @@
 use Rattle.std.proofs.Common.{◌≡◌, length, refl, sym, ap, ◌∙◌}
 use Rattle.pc_model.proofs.BestMapLemmas.{map_reading-best_map, size-best_map}
 use Rattle.pc_model.specs.BestMap.{BestMap}
-use Rattle.pc_choice.proofs.ChoiceLemmas.{best_map-empty, best_map-fits, best_map-long, best_map-none, no_shorter_text, spelled-some}
+use Rattle.pc_choice.proofs.ChoiceLemmas.{HasNoLetter-best_map, best_map-empty, best_map-fits, best_map-long, best_map-none, no_letter, no_shorter_text, spelled-some}
 use Rattle.pc_choice.proofs.choice.choose.Goals as goal
 
 pub returns-then-count-eq0-clause-letter : goal.returns-then-count-eq0-clause-letter
@@ -78,3 +78,21 @@ returns-clause-read_back c base room some =
     let text = rw c.in-Some-2.is at c.in_ok-text.ensures in
     let best = best_map-fits c.args.bits.now c.args.limit c.in-Some.letter c.in-Some.size c.in-Some-2.text (λ (none : length c.args.bits.now ≡ 0). c.if-count-eq0.false (c.count.ensures.count ∙ none)) c.in-Some.ensures c.if-size-limit.false text in
     rw best at (map_reading-best_map base c.args.limit c.args.bits.now room (rw best refl))
+
+pub returns-then-count-eq0-clause-empty : goal.returns-then-count-eq0-clause-empty
+returns-then-count-eq0-clause-empty c =
+    no_letter (λ choice. choice.letter) (λ choice. choice.text) c.args.bits.now c.args.limit c.left_out.result
+    (returns-then-count-eq0-clause-letter c) (returns-then-count-eq0-clause-text c)
+
+pub returns-in_default-clause-empty : goal.returns-in_default-clause-empty
+returns-in_default-clause-empty c =
+    no_letter (λ choice. choice.letter) (λ choice. choice.text) c.args.bits.now c.args.limit c.left_out-in_default.result
+    (returns-in_default-clause-letter c) (returns-in_default-clause-text c)
+
+pub returns-then-size-limit-clause-empty : goal.returns-then-size-limit-clause-empty
+returns-then-size-limit-clause-empty c =
+    no_letter (λ choice. choice.letter) (λ choice. choice.text) c.args.bits.now c.args.limit c.left_out-then-size-limit.result
+    (returns-then-size-limit-clause-letter c) (returns-then-size-limit-clause-text c)
+
+pub returns-clause-empty : goal.returns-clause-empty
+returns-clause-empty c = rw (returns-clause-letter c, returns-clause-text c) (HasNoLetter-best_map c.args.bits.now c.args.limit)
