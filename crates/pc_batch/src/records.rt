@@ -73,7 +73,8 @@ pub(crate) fn count(frame: &Frame, bytes: &[u8], place: u64) -> Result<u32, Batc
     requires sound { IsSound frame.now }
     requires places { place + length bytes.now < 2 ^ 64 }
     requires room { length bytes.now < 2 ^ 32 }
-    ensures { result ≡ counted 0 (place + length bytes.now) (records_at (length bytes.now) frame.now frame.now.base bytes.now) }
+    ensures { result ≡ counted 0 (place + length bytes.now)
+        (records_at (length bytes.now) frame.now frame.now.base bytes.now) }
 {
     let mut reader = Reader::new(bytes, place);
     let mut least = frame.base;
