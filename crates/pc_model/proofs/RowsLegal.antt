@@ -32,7 +32,8 @@ pub failed_commit-is_legal : is_legal (row_given plain_setup) (reverse failed_co
 unfolding history_on_literals plain_setup
 failed_commit-is_legal = refl
 
-pub failed_commit_applied-is_legal : is_legal (row_given plain_setup) (reverse failed_commit_applied) ≡ true
+pub failed_commit_applied-is_legal : is_legal (row_given plain_setup)
+    (reverse failed_commit_applied) ≡ true
 unfolding history_on_literals plain_setup
 failed_commit_applied-is_legal = refl
 

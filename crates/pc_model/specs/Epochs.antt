@@ -18,7 +18,8 @@ abbrev pub is_assign : Event → Bool
 is_assign (Assign p e position text) = true
 is_assign _ = false
 
--- the part's epoch: how many of its assignments, revocations and losses and of all crashes there were
+-- the part's epoch: how many of its assignments, revocations and losses and of all crashes there
+-- were
 abbrev pub epoch_of : List Event → ℕ → ℕ
 epoch_of [] p = 0
 epoch_of (e ∷ h) p = if moves e p then epoch_of h p + 1 else epoch_of h p

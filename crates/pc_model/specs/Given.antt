@@ -1,5 +1,6 @@
--- What a run is given: the setup, the logs, what was stored before, and whether the link tells its store.
-use Rattle.std.specs.Prelude.{ℕ, suc, Bool, true, ◌&&◌, ◌==◌, nat_le, List, [], ◌∷◌, length, Option, is_some, unwrap_or, find, slice_get}
+-- What a run is given: the setup, the logs, what was stored before, and whether the link tells its
+-- store.
+use Rattle.std.specs.Prelude.{ℕ, suc, ◌-◌, ◌^◌, Bool, true, ◌&&◌, ◌==◌, nat_le, nat_lt, List, [], ◌∷◌, length, Option, is_some, unwrap_or, find, slice_get}
 use Rattle.std.specs.List.{list_all, range_with_len}
 use Rattle.std.specs.Option.{option_map_or, option_flatten}
 use Rattle.pc_model.specs.declared.setup.Setup.{Setup}
@@ -7,7 +8,8 @@ use Rattle.pc_model.specs.declared.outcome.Start.{Start}
 use Rattle.pc_model.specs.declared.commit.Commit.{Commit}
 use Rattle.pc_model.specs.Record.{Record}
 
--- the four things that every definition of a history is read against. The log of part p stands at place p of `logs`
+-- the four things that every definition of a history is read against. The log of part p stands at
+-- place p of `logs`
 pub record Given : Type 0 where
   pub setup : Setup
   pub logs : List (Option (List Record))
@@ -36,12 +38,14 @@ no_commit = record { position = 0; map = [] }
 
 -- the commit that was stored for the part before the run
 abbrev pub start_of : Given → ℕ → Commit
-start_of given p = option_map_or (λ s. record { position = s.position; map = s.map }) (find (λ s. s.part == p) given.start) no_commit
+start_of given p = option_map_or (λ s. record { position = s.position; map = s.map })
+    (find (λ s. s.part == p) given.start) no_commit
 
--- whether the offsets of a log rise, all of them at least `least`
+-- whether the offsets of a log rise, all of them at least `least` and at most 2^63 - 2
 abbrev pub rises_from : ℕ → List Record → Bool
 rises_from least [] = true
-rises_from least (r ∷ rs) = nat_le least r.offset && rises_from (suc r.offset) rs
+rises_from least (r ∷ rs) = nat_le least r.offset
+    && (nat_lt r.offset (2 ^ 63 - 1) && rises_from (suc r.offset) rs)
 
 -- whether each log's offsets rise
 abbrev pub all_logs_rise : Given → Bool

@@ -1,4 +1,5 @@
--- Jobs and tickets, and whether a history has ended or drains. A history is a list of events, the newest first.
+-- Jobs and tickets, and whether a history has ended or drains. A history is a list of events, the
+-- newest first.
 use Rattle.std.specs.Prelude.{ℕ, Bool, true, false, not, ◌&&◌, ◌||◌, ◌==◌, List, [], ◌∷◌, length, Option, Some, None, is_some, find, filter}
 use Rattle.std.specs.List.{cons_option}
 use Rattle.pc_model.specs.declared.event.Event.{Event}
@@ -15,7 +16,8 @@ pub record Job : Type 0 where
 
 -- the job that this event dispatches
 abbrev pub job_in : Event → Option Job
-job_in (Dispatch t w p o e a) = Some (record { ticket = t; worker = w; part = p; offset = o; epoch = e; attempt = a })
+job_in (Dispatch t w p o e a) = Some
+    (record { ticket = t; worker = w; part = p; offset = o; epoch = e; attempt = a })
 job_in _ = None
 
 -- the jobs that were dispatched, the newest first

@@ -1,4 +1,5 @@
--- What a held part knows: its records that were polled, or that the map of its assignment speaks of, and which are complete.
+-- What a held part knows: its records that were polled, or that the map of its assignment speaks
+-- of, and which are complete.
 use Rattle.std.specs.Prelude.{ℕ, ◌+◌, Bool, false, ◌&&◌, ◌||◌, ◌==◌, nat_lt, nat_le, if◌then◌else◌, List, [], ◌∷◌, ◌++◌, map, take, drop, Option, Some, None, is_some, filter, unwrap_or}
 use Rattle.std.specs.Option.{option_map_or}
 use Rattle.pc_model.specs.declared.event.Event.{Event}
@@ -14,7 +15,8 @@ use Rattle.pc_model.specs.Marks.{Mark, high_at, position_at, commit_at}
 
 -- the commit that this event assigns the part with
 abbrev pub assigned_by : Event → ℕ → Option Commit
-assigned_by (Assign p e position text) q = if p == q then Some (record { position = position; map = text }) else None
+assigned_by (Assign p e position text) q = if p == q then Some
+    (record { position = position; map = text }) else None
 assigned_by _ q = None
 
 -- the position and the map of the part's last assignment
@@ -35,7 +37,8 @@ polled_by _ q = None
 abbrev pub polled_count : List Event → ℕ → ℕ
 polled_count [] p = 0
 polled_count (e ∷ h) p =
-    if is_some (assigned_by e p) then 0 else option_map_or (λ count. polled_count h p + count) (polled_by e p) (polled_count h p)
+    if is_some (assigned_by e p) then 0 else option_map_or (λ count. polled_count h p + count)
+    (polled_by e p) (polled_count h p)
 
 -- the part's records from its begin on
 abbrev pub records_from_begin : Given → List Event → ℕ → List Record
@@ -51,7 +54,8 @@ unpolled_records given h p = drop (polled_count h p) (records_from_begin given h
 
 -- those that were polled, and behind them those of which the assignment's map says something
 unfoldable pub known_records : Given → List Event → ℕ → List Record
-known_records given h p = polled_records given h p ++ filter (λ r. nat_lt r.offset (map_end (assigned_commit h p))) (unpolled_records given h p)
+known_records given h p = polled_records given h p ++ filter
+    (λ r. nat_lt r.offset (map_end (assigned_commit h p))) (unpolled_records given h p)
 
 -- whether the job is one of the part and the offset in the epoch
 abbrev pub is_job_at : Option Job → ℕ → ℕ → ℕ → Bool
@@ -68,13 +72,15 @@ abbrev pub has_succeeded : List Event → ℕ → ℕ → ℕ → Bool
 has_succeeded [] p e o = false
 has_succeeded (v ∷ h) p e o = is_success_at v h p e o || has_succeeded h p e o
 
--- whether the offset is complete: it succeeded in the present epoch, or the assignment's commit passes over it
+-- whether the offset is complete: it succeeded in the present epoch, or the assignment's commit
+-- passes over it
 unfoldable pub is_complete : List Event → ℕ → ℕ → Bool
 is_complete h p o = has_succeeded h p (epoch_of h p) o || passes (assigned_commit h p) o
 
 -- each known offset with whether it is complete
 unfoldable pub marks_of : Given → List Event → ℕ → List Mark
-marks_of given h p = map (λ r. record { offset = r.offset; is_complete = is_complete h p r.offset }) (known_records given h p)
+marks_of given h p = map (λ r. record { offset = r.offset; is_complete = is_complete h p r.offset })
+    (known_records given h p)
 
 -- the greatest complete offset of the part, if there is one
 abbrev pub high_of : Given → List Event → ℕ → Option ℕ

@@ -22,3 +22,4 @@ pub mod Sound
 pub mod Run
 pub mod Test
 pub mod Rows
+pub mod OneMore

@@ -1,5 +1,5 @@
 -- The reading of a map's text: no map, its bits, or the first fault from left to right.
-use Rattle.std.specs.Prelude.{ℕ, ◌+◌, ◌-◌, ◌*◌, ◌/◌, ◌%◌, ◌^◌, ◌==◌, nat_lt, Bool, false, not, if◌then◌else◌, ◌||◌, List, [], ◌∷◌, ◌++◌, map, length, drop, replicate, slice_index, Option, Some, None, Result, Ok, Err}
+use Rattle.std.specs.Prelude.{ℕ, ◌+◌, ◌*◌, ◌/◌, ◌%◌, ◌^◌, ◌==◌, nat_lt, Bool, false, not, if◌then◌else◌, ◌||◌, List, [], ◌∷◌, ◌++◌, map, length, drop, replicate, slice_index, Option, Some, None, Result, Ok, Err}
 use Rattle.std.specs.List.{list_all, range_with_len}
 use Rattle.base64.specs.declared.decode.DecodeError.{DecodeError}
 use Rattle.base64.specs.Engines.{standard}

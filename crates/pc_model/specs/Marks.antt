@@ -35,11 +35,18 @@ end_at begin marks = option_map_or (λ o. o + 1) (greatest_of (offsets_of marks)
 unfoldable pub position_at : ℕ → List Mark → ℕ
 position_at begin marks = unwrap_or (least_of (incomplete_offsets marks)) (end_at begin marks)
 
--- the completion bits from the position to the greatest complete offset, and none where there is no such offset
+-- the completion bits from the position to the greatest complete offset, and none where there is no
+-- such offset
 unfoldable pub bits_at : ℕ → List Mark → List Bool
-bits_at begin marks = option_map_or (λ high. bits_between (position_at begin marks) high (incomplete_offsets marks)) (high_at marks) []
+bits_at begin marks = option_map_or
+    (λ high. bits_between (position_at begin marks) high (incomplete_offsets marks)) (high_at marks)
+    []
 
 -- the commit of a part: its position, and the best map of its completion bits within the limit
 unfoldable pub commit_at : ℕ → ℕ → List Mark → SizedCommit
 commit_at limit begin marks = let best = best_map (bits_at begin marks) limit in
-    record { commit = record { position = position_at begin marks; map = best.text }; size = best.size }
+    record {
+      commit = record { position = position_at begin marks; map = best.text };
+      size =
+          best.size;
+    }

@@ -14,8 +14,8 @@ use Rattle.pc_model.specs.Known.{polled_records, is_complete}
 use Rattle.pc_model.specs.Pressure.{is_blocked, is_below_high}
 use Rattle.pc_model.specs.Retry.{now_of, failures_of, ready_of}
 
--- what records that run one after the other share: the part and the offset, the part alone, or the part and the key bytes,
--- where no key is another key than the empty one
+-- what records that run one after the other share: the part and the offset, the part alone, or the
+-- part and the key bytes, where no key is another key than the empty one
 pub data OrderingKey : Type 0 where
   OfRecord : ℕ → ℕ → OrderingKey
   OfPart : ℕ → OrderingKey
@@ -42,7 +42,8 @@ same_key _ _ = false
 
 -- the ordering key of a job's record, if the log has it
 abbrev pub job_key : Given → Job → Option OrderingKey
-job_key given j = option_map (ordering_key given.setup.order j.part) (record_at given j.part j.offset)
+job_key given j = option_map (ordering_key given.setup.order j.part)
+    (record_at given j.part j.offset)
 
 -- whether the job's record has this ordering key
 abbrev pub has_key : Given → OrderingKey → Job → Bool
@@ -59,10 +60,12 @@ is_before given p q r = nat_lt q.offset r.offset
 
 -- whether every earlier polled record of the record's ordering key is complete
 unfoldable pub is_first : Given → List Event → ℕ → Record → Bool
-is_first given h p r = list_all (λ q. not (is_before given p q r) || is_complete h p q.offset) (polled_records given h p)
+is_first given h p r = list_all (λ q. not (is_before given p q r) || is_complete h p q.offset)
+    (polled_records given h p)
 
--- whether a polled record of a held part may be dispatched: it is incomplete, no current job of its key is outstanding, it is
--- the first of its key, it has attempts left, its ready time has come, and under pressure it lies below the part's high
+-- whether a polled record of a held part may be dispatched: it is incomplete, no current job of its
+-- key is outstanding, it is the first of its key, it has attempts left, its ready time has come,
+-- and under pressure it lies below the part's high
 unfoldable pub is_eligible_record : Given → List Event → ℕ → Record → Bool
 is_eligible_record given h p r = not (is_complete h p r.offset)
     && not (is_busy given h (ordering_key given.setup.order p r))
@@ -74,7 +77,8 @@ is_eligible_record given h p r = not (is_complete h p r.offset)
 -- the offsets of the part that may be dispatched
 unfoldable pub eligible_offsets : Given → List Event → ℕ → List ℕ
 eligible_offsets given h p = if is_held h p
-    then map (λ r. r.offset) (filter (is_eligible_record given h p) (polled_records given h p)) else []
+    then map (λ r. r.offset) (filter (is_eligible_record given h p) (polled_records given h p)) else
+    []
 
 -- whether the offset of the part may be dispatched
 abbrev pub is_eligible : Given → List Event → ℕ → ℕ → Bool
@@ -93,7 +97,8 @@ last_part h = option_map (λ j. j.part) (slice_get (jobs_of h) 0)
 abbrev pub next_of_part : Given → List Event → ℕ → Option (ℕ × ℕ)
 next_of_part given h p = option_map (λ o. (p, o)) (least_of (eligible_offsets given h p))
 
--- the part and the offset of the record to dispatch: of the first part, in cyclic order after that of the last dispatch, that
--- has one, the least
+-- the part and the offset of the record to dispatch: of the first part, in cyclic order after that
+-- of the last dispatch, that has one, the least
 unfoldable pub next_record : Given → List Event → Option (ℕ × ℕ)
-next_record given h = first_some (next_of_part given h) (cyclic_order (length given.logs) (last_part h))
+next_record given h = first_some (next_of_part given h)
+    (cyclic_order (length given.logs) (last_part h))

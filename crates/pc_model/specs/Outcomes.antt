@@ -13,8 +13,8 @@ use Rattle.pc_model.specs.Record.{Record}
 use Rattle.pc_model.specs.Given.{Given, record_at}
 use Rattle.pc_model.specs.Jobs.{Job, job_of}
 
--- the function's answer to a value: how many bytes it has, or their sum, as a decimal, or the bytes in lower-case
--- hexadecimal; `null` to a null value
+-- the function's answer to a value: how many bytes it has, or their sum, as a decimal, or the bytes
+-- in lower-case hexadecimal; `null` to a null value
 abbrev pub answer_of : Work → Option (List ℕ) → List ℕ
 answer_of work None = codes "null"
 answer_of Length (Some bytes) = decimal (length bytes)
@@ -25,14 +25,17 @@ answer_of Hex (Some bytes) = encode_lower bytes
 abbrev pub fail_rule_of : List FailRule → ℕ → ℕ → Option FailRule
 fail_rule_of fails p o = find (λ f. (f.part == p) && (f.offset == o)) fails
 
--- the outcome of an attempt, counted from 1: it fails with code 1 as often as the rule says, and then succeeds
+-- the outcome of an attempt, counted from 1: it fails with code 1 as often as the rule says, and
+-- then succeeds
 abbrev pub outcome_of : Rules → ℕ → Record → ℕ → Outcome
-outcome_of rules p r attempt = if option_map_or (λ f. nat_le attempt f.times) (fail_rule_of rules.fails p r.offset) false
+outcome_of rules p r attempt = if option_map_or (λ f. nat_le attempt f.times)
+    (fail_rule_of rules.fails p r.offset) false
     then Bad 1 else Good (answer_of rules.work r.value)
 
 -- the outcome of a job's attempt, if its record is in the log
 abbrev pub job_outcome : Given → Job → Option Outcome
-job_outcome given j = option_map (λ r. outcome_of given.setup.rules j.part r j.attempt) (record_at given j.part j.offset)
+job_outcome given j = option_map (λ r. outcome_of given.setup.rules j.part r j.attempt)
+    (record_at given j.part j.offset)
 
 -- the outcome of a ticket's attempt, if it was dispatched
 unfoldable pub ticket_outcome : Given → List Event → ℕ → Option Outcome

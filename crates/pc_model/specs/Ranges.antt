@@ -13,7 +13,8 @@ use Rattle.pc_model.specs.declared.setup.SetupFault.TheVariants.{OutOfRange, Par
 
 -- the fault of a field whose value lies outside its range
 abbrev pub range_fault : SetupField → ℕ → ℕ → ℕ → Option SetupFault
-range_fault field least most value = if nat_le least value && nat_le value most then None else Some (OutOfRange field least most)
+range_fault field least most value = if nat_le least value && nat_le value most then None else Some
+    (OutOfRange field least most)
 
 -- the first fault of the numbers
 abbrev pub number_fault : Settings → Option SetupFault
@@ -30,36 +31,43 @@ delay_fault d = range_fault Delay 0 86400000 d
 
 -- the first fault of the delays: how many there are, or one of them
 abbrev pub delays_fault : List ℕ → Option SetupFault
-delays_fault delays = option_or (range_fault Delays 1 16 (length delays)) (first_some delay_fault delays)
+delays_fault delays = option_or (range_fault Delays 1 16 (length delays))
+    (first_some delay_fault delays)
 
 -- the first fault of a fail rule
 abbrev pub rule_fault : FailRule → Option SetupFault
 rule_fault f = option_or (range_fault FailPart 0 1023 f.part)
-    (option_or (range_fault FailOffset 0 (2 ^ 63 - 2) f.offset) (range_fault FailTimes 1 1000000 f.times))
+    (option_or (range_fault FailOffset 0 (2 ^ 63 - 2) f.offset)
+    (range_fault FailTimes 1 1000000 f.times))
 
 -- the first fault of the fail rules
 abbrev pub rules_fault : List FailRule → Option SetupFault
-rules_fault fails = option_or (range_fault Fails 0 1000000 (length fails)) (first_some rule_fault fails)
+rules_fault fails = option_or (range_fault Fails 0 1000000 (length fails))
+    (first_some rule_fault fails)
 
 -- the first fault of a start
 abbrev pub start_fault : Start → Option SetupFault
 start_fault s = option_or (range_fault StartPart 0 1023 s.part)
-    (option_or (range_fault StartPosition 0 (2 ^ 63 - 1) s.position) (range_fault StartMap 0 4096 (length s.map)))
+    (option_or (range_fault StartPosition 0 (2 ^ 63 - 1) s.position)
+    (range_fault StartMap 0 4096 (length s.map)))
 
 -- the first start whose part stands in an earlier one
 abbrev pub twice_fault : List Start → List Start → Option SetupFault
 twice_fault earlier [] = None
-twice_fault earlier (s ∷ rest) = if list_any (λ t. t.part == s.part) earlier then Some (PartTwice s.part)
+twice_fault earlier (s ∷ rest) = if list_any (λ t. t.part == s.part) earlier then Some
+    (PartTwice s.part)
     else twice_fault (earlier ++ s ∷ []) rest
 
 -- the first fault of the starts
 abbrev pub starts_fault : List Start → Option SetupFault
-starts_fault starts = option_or (range_fault Starts 0 1024 (length starts)) (option_or (first_some start_fault starts) (twice_fault [] starts))
+starts_fault starts = option_or (range_fault Starts 0 1024 (length starts))
+    (option_or (first_some start_fault starts) (twice_fault [] starts))
 
 -- the first fault of a setup's values: of the numbers, the delays, the fail rules, the starts
 unfoldable pub settings_fault : Settings → Option SetupFault
 settings_fault s = option_or (number_fault s)
-    (option_or (delays_fault s.delays) (option_or (rules_fault s.rules.fails) (starts_fault s.starts)))
+    (option_or (delays_fault s.delays)
+    (option_or (rules_fault s.rules.fails) (starts_fault s.starts)))
 
 -- a check that refuses with the fault, if there is one
 abbrev pub refuses : Option SetupFault → Result (Unit {0}) SetupFault

@@ -16,9 +16,11 @@ abbrev pub now_of : List Event → ℕ
 now_of [] = 0
 now_of (e ∷ h) = unwrap_or (tick_in e) (now_of h)
 
--- the ready time of this event, if it is a failure of the offset in the epoch, and follows the history
+-- the ready time of this event, if it is a failure of the offset in the epoch, and follows the
+-- history
 abbrev pub failure_in : Event → List Event → ℕ → ℕ → ℕ → Option ℕ
-failure_in (Failure t code ready) h p e o = if is_job_at (job_of h t) p e o then Some ready else None
+failure_in (Failure t code ready) h p e o = if is_job_at (job_of h t) p e o then Some ready
+    else None
 failure_in _ h p e o = None
 
 -- one more where there is something
@@ -43,10 +45,12 @@ failures_of h p o = failures_in h p (epoch_of h p) o
 abbrev pub ready_of : List Event → ℕ → ℕ → ℕ
 ready_of h p o = ready_in h p (epoch_of h p) o
 
--- the wait after the n-th failure, counted from 1: the n-th delay, or the last where there are fewer
+-- the wait after the n-th failure, counted from 1: the n-th delay, or the last where there are
+-- fewer
 abbrev pub delay_after : List ℕ → ℕ → ℕ
 delay_after delays n = slice_index delays (min n (length delays) - 1)
 
--- when a record may run again after its n-th failure: now plus the wait, or 2^64 - 1 where the sum passes that
+-- when a record may run again after its n-th failure: now plus the wait, or 2^64 - 1 where the sum
+-- passes that
 abbrev pub ready_after : List ℕ → ℕ → ℕ → ℕ
 ready_after delays n now = min (now + delay_after delays n) (2 ^ 64 - 1)

@@ -27,7 +27,8 @@ abbrev pub was_done : List Event → ℕ → ℕ → Bool
 was_done [] p o = false
 was_done (e ∷ h) p o = is_current_success e h p o || was_done h p o
 
--- an offset that may be passed over: the log has no record there, it was passed over at the start, or it was done
+-- an offset that may be passed over: the log has no record there, it was passed over at the start,
+-- or it was done
 abbrev pub MayPass : Given → List Event → ℕ → ℕ → Type 0
 MayPass given h p o =
     (record_at given p o ≡ None) ⊎ (passes (start_of given p) o ≡ true) ⊎ (was_done h p o ≡ true)
@@ -38,25 +39,32 @@ PassesSoundly given h p c = (o : ℕ) → passes c o ≡ true → MayPass given 
 
 -- this event, if it is a commit, passes over nothing else
 abbrev pub IsSoundAt : Given → Event → List Event → Type 0
-IsSoundAt given (Committed p position text size) h = PassesSoundly given h p (record { position = position; map = text })
-IsSoundAt given (CommitFailed p position text size) h = PassesSoundly given h p (record { position = position; map = text })
+IsSoundAt given (Committed p position text size) h = PassesSoundly given h p
+    (record { position = position; map = text })
+IsSoundAt given (CommitFailed p position text size) h = PassesSoundly given h p
+    (record { position = position; map = text })
 IsSoundAt given _ h = Unit {0}
 
--- nothing is passed over that was not done: so it is of each commit of the history, stored or failed
+-- nothing is passed over that was not done: so it is of each commit of the history, stored or
+-- failed
 abbrev pub IsSound : Given → List Event → Type 0
 IsSound given [] = Unit {0}
 IsSound given (e ∷ h) = IsSoundAt given e h × IsSound given h
 
--- whether every record of the part from its begin on that stands before this one and shares its ordering key is passed over by
--- the assignment's commit or succeeded in the epoch
+-- whether every record of the part from its begin on that stands before this one and shares its
+-- ordering key is passed over by the assignment's commit or succeeded in the epoch
 abbrev pub are_earlier_done : Given → List Event → ℕ → ℕ → Record → Bool
 are_earlier_done given h p epoch r = list_all
-    (λ q. not (nat_le (begin_of h p) q.offset && is_before given p q r) || passes (assigned_commit h p) q.offset || has_succeeded h p epoch q.offset)
+    (λ q. not (nat_le (begin_of h p) q.offset && is_before given p q r) || passes
+    (assigned_commit h p) q.offset || has_succeeded h p epoch q.offset)
     (records_of given p)
 
--- a dispatch in order: no other current job of the record's ordering key is outstanding, and the earlier records of that key are done
-pub record DispatchIsOrderly (given : Given) (h : List Event) (p epoch : ℕ) (r : Record) : Type 0 where
-  pub alone : list_any (λ j. is_current h j && has_key given (ordering_key given.setup.order p r) j) (open_jobs h) ≡ false
+-- a dispatch in order: no other current job of the record's ordering key is outstanding, and the
+-- earlier records of that key are done
+pub record DispatchIsOrderly (given : Given) (h : List Event) (p epoch : ℕ) (r : Record)
+    : Type 0 where
+  pub alone : list_any (λ j. is_current h j && has_key given (ordering_key given.setup.order p r) j)
+      (open_jobs h) ≡ false
   pub in_order : are_earlier_done given h p epoch r ≡ true
 
 -- the same of the record at an offset, if the log has it
@@ -66,7 +74,8 @@ RecordIsOrderly given h p epoch (Some r) = DispatchIsOrderly given h p epoch r
 
 -- this event, if it is a dispatch, is in order
 abbrev pub IsOrderlyAt : Given → Event → List Event → Type 0
-IsOrderlyAt given (Dispatch ticket worker p o epoch attempt) h = RecordIsOrderly given h p epoch (record_at given p o)
+IsOrderlyAt given (Dispatch ticket worker p o epoch attempt) h = RecordIsOrderly given h p epoch
+    (record_at given p o)
 IsOrderlyAt given _ h = Unit {0}
 
 -- one ordering key runs singly, in offset order: so it is of each dispatch of the history

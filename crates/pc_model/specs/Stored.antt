@@ -10,13 +10,16 @@ use Rattle.pc_model.specs.MapReading.{map_reading}
 
 -- what this event puts for certain in the place of all that may be stored for the part
 abbrev pub stored_by : Event → ℕ → Option Commit
-stored_by (Assign p e position text) q = if p == q then Some (record { position = position; map = text }) else None
-stored_by (Committed p position text size) q = if p == q then Some (record { position = position; map = text }) else None
+stored_by (Assign p e position text) q = if p == q then Some
+    (record { position = position; map = text }) else None
+stored_by (Committed p position text size) q = if p == q then Some
+    (record { position = position; map = text }) else None
 stored_by _ q = None
 
 -- what this event may have stored for the part or not
 abbrev pub failed_by : Event → ℕ → Option Commit
-failed_by (CommitFailed p position text size) q = if p == q then Some (record { position = position; map = text }) else None
+failed_by (CommitFailed p position text size) q = if p == q then Some
+    (record { position = position; map = text }) else None
 failed_by _ q = None
 
 -- what may be stored after an event, by what may have been before
@@ -25,7 +28,8 @@ stored_after (Some c) failed before = c ∷ []
 stored_after None (Some c) before = before ++ c ∷ []
 stored_after None None before = before
 
--- the commits of which the link's store has one for the part: the last that was stored for certain, and those that failed since
+-- the commits of which the link's store has one for the part: the last that was stored for certain,
+-- and those that failed since
 abbrev pub may_store : Given → List Event → ℕ → List Commit
 may_store given [] p = start_of given p ∷ []
 may_store given (e ∷ h) p = stored_after (stored_by e p) (failed_by e p) (may_store given h p)

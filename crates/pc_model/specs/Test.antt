@@ -39,30 +39,39 @@ is_bad _ n = false
 
 -- whether the commit has this position, map and size
 abbrev pub is_sized : SizedCommit → ℕ → List ℕ → ℕ → Bool
-is_sized c position text size = (c.commit.position == position) && (bytes_eq c.commit.map text && (c.size == size))
+is_sized c position text size =
+    (c.commit.position == position) && (bytes_eq c.commit.map text && (c.size == size))
 
 -- whether a commit of the part may come, stored or failed
 abbrev pub is_commit_lawful : Given → List Event → ℕ → ℕ → List ℕ → ℕ → Bool
-is_commit_lawful given h p position text size = is_held h p && is_sized (commit_of given h p) position text size
+is_commit_lawful given h p position text size = is_held h p && is_sized
+    (commit_of given h p) position text size
 
 -- whether the event may come after the history, but for the rule that none follows an end
 abbrev pub is_lawful : Given → Event → List Event → Bool
-is_lawful given (Assign p epoch position text) h = has_log given p && (not (is_held h p) && (not (is_draining h)
+is_lawful given (Assign p epoch position text) h = has_log given p
+    && (not (is_held h p) && (not (is_draining h)
     && ((epoch == epoch_of h p + 1)
-    && (not given.is_told || is_entry (may_store given h p) (record { position = position; map = text })))))
+    && (not given.is_told || is_entry (may_store given h p)
+    (record { position = position; map = text })))))
 is_lawful given (Poll p count last) h = is_held h p && (not (is_draining h) && (nat_lt 0 count
-    && (is_number (option_map (λ r. r.offset) (slice_get (unpolled_records given h p) (count - 1))) last
+    && (is_number (option_map (λ r. r.offset) (slice_get (unpolled_records given h p) (count - 1)))
+    last
     && (not (is_blocked given h p) || is_upto_high given h p last))))
-is_lawful given (Dispatch ticket worker p o epoch attempt) h = (ticket == dispatch_count h + 1) && (nat_lt worker 256
-    && (is_record (next_record given h) p o && ((epoch == epoch_of h p) && (attempt == failures_of h p o + 1))))
+is_lawful given (Dispatch ticket worker p o epoch attempt) h =
+    (ticket == dispatch_count h + 1) && (nat_lt worker 256
+    && (is_record (next_record given h) p o
+    && ((epoch == epoch_of h p) && (attempt == failures_of h p o + 1))))
 is_lawful given (Success ticket answer) h = is_outstanding h ticket && (is_current_ticket h ticket
     && is_good (ticket_outcome given h ticket) answer)
-is_lawful given (Failure ticket code ready) h = is_outstanding h ticket && (is_current_ticket h ticket
+is_lawful given (Failure ticket code ready) h = is_outstanding h ticket
+    && (is_current_ticket h ticket
     && (is_bad (ticket_outcome given h ticket) code
     && (ready == ready_after given.setup.delays (ticket_attempt h ticket) (now_of h))))
 is_lawful given (Stale ticket) h = is_outstanding h ticket && not (is_current_ticket h ticket)
 is_lawful given (Committed p position text size) h = is_commit_lawful given h p position text size
-is_lawful given (CommitFailed p position text size) h = is_commit_lawful given h p position text size
+is_lawful given (CommitFailed p position text size) h =
+    is_commit_lawful given h p position text size
 is_lawful given (Revoke p epoch) h = ends_in_commit h p && (epoch == epoch_of h p)
 is_lawful given (Lost p epoch) h = is_held h p && (epoch == epoch_of h p)
 is_lawful given Crash h = true

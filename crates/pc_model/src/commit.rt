@@ -15,6 +15,7 @@ pub struct Commit {
 #[derive(Debug, Drop)]
 pub struct SizedCommit {
     pub commit: Commit,
-    /// The characters of the best map's text: 0 without bits, 4,294,967,295 where no text holds them.
+    /// The characters of the best map's text: 0 without bits, 4,294,967,295 where no text holds
+    /// them.
     pub size: u32,
 }

@@ -1,4 +1,5 @@
-//! The journal: the list of all events so far. Contracts see its events, the newest first, and the room for more.
+//! The journal: the list of all events so far. Contracts see its events, the newest first, and the
+//! room for more.
 ghost use Rattle.std.specs.Prelude.{◌≡◌, ℕ, ◌+◌, ◌<◌, ◌≤◌, ◌-◌, List, [], ◌∷◌, IfOk, OnErr, OnOk, length, reverse, option_copied, slice_get};
 ghost use Rattle.pc_model.specs.History.{History};
 
@@ -19,7 +20,8 @@ impl Model for Journal {
 
     ghost Value = { History };
 
-    ghost view = { λ j. record { events = reverse j.events.items; room = vec_capacity j.events - length j.events.items } };
+    ghost view = { λ j. record
+        { events = reverse j.events.items; room = vec_capacity j.events - length j.events.items } };
 }
 
 impl Journal {
@@ -32,7 +34,8 @@ impl Journal {
         }
     }
 
-    /// Makes room for `n` more events. The only error is want of memory, after which all is as before.
+    /// Makes room for `n` more events. The only error is want of memory, after which all is as
+    /// before.
     pub fn reserve(&mut self, n: u64) -> Result<(), AllocError>
         ensures room { IfOk result (λ _. n ≤ self.new.room) }
         ensures events { self.new.events ≡ self.old.events }

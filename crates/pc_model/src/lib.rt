@@ -8,6 +8,7 @@ mod bits_fault;
 mod choices;
 mod commit;
 mod event;
+pub mod evidence;
 mod journal;
 mod lists;
 mod map_fault;
@@ -28,3 +29,6 @@ pub use map_letter::{BITSET, BITSET_2, RUN_LENGTH, RUN_LENGTH_2};
 pub use outcome::{FailRule, Outcome, Rules, Start};
 pub use setup::{Settings, Setup, SetupFault, SetupField};
 pub use texts::{KeyText, MapText, NameText};
+
+#[cfg(test)]
+mod tests;

@@ -37,7 +37,8 @@ impl Answer {
     }
 }
 
-/// The waits after the failures of a record, in the clock's numbers: the n-th after the n-th failure, the last after all later ones.
+/// The waits after the failures of a record, in the clock's numbers: the n-th after the n-th
+/// failure, the last after all later ones.
 #[derive(Debug, Drop)]
 pub struct Delays {
     items: Vec<u64>,

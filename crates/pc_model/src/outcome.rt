@@ -15,7 +15,8 @@ pub struct FailRule {
     pub times: u32,
 }
 
-/// What a function answers: its work, and the records that fail. Of two rules for one record the first counts.
+/// What a function answers: its work, and the records that fail. Of two rules for one record the
+/// first counts.
 #[derive(Debug, Drop)]
 pub struct Rules {
     pub work: Work,

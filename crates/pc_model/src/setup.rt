@@ -68,10 +68,11 @@ pub enum SetupFault {
 
 /// The setup of a run. Its fields are those of `Settings`, each in its range:
 ///
-/// `map_limit` 0 to 4,096 characters; `press_percent` 1 to 100; 1 to 16 `delays` of 0 to 86,400,000; `give_up`, `buffer`,
-/// `poll_max` and `commit_every` 1 to 1,000,000; at most 1,000,000 fail rules with a part below 1,024, an offset of at most
-/// 2^63 - 2 and 1 to 1,000,000 times; at most 1,024 starts with a part below 1,024 that stands in no other, a position of at
-/// most 2^63 - 1 and a map of at most 4,096 bytes.
+/// `map_limit` 0 to 4,096 characters; `press_percent` 1 to 100; 1 to 16 `delays` of 0 to
+/// 86,400,000; `give_up`, `buffer`, `poll_max` and `commit_every` 1 to 1,000,000; at most 1,000,000
+/// fail rules with a part below 1,024, an offset of at most 2^63 - 2 and 1 to 1,000,000 times; at
+/// most 1,024 starts with a part below 1,024 that stands in no other, a position of at most 2^63 -
+/// 1 and a map of at most 4,096 bytes.
 #[derive(Debug, Drop)]
 pub struct Setup {
     pub order: Order,
@@ -103,8 +104,8 @@ pub struct Setup {
 impl Setup {
     ghost use Rattle.pc_model.specs.Defaults.{default_settings, settings_of};
 
-    /// The setup of these values, or the first of them that is out of its range: of the numbers, then of the delays, the
-    /// fail rules and the starts. The values are let go where one is.
+    /// The setup of these values, or the first of them that is out of its range: of the numbers,
+    /// then of the delays, the fail rules and the starts. The values are let go where one is.
     pub fn new(settings: Settings) -> Result<Setup, SetupFault>
         ensures values { IfOk result (λ s. settings_of s ≡ settings) }
         ensures ok { IfOk result (λ _. settings_fault settings ≡ None) }

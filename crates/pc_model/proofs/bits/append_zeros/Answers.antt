@@ -1,7 +1,7 @@
 -- The last run ends at the place, or the new one stands apart from it.
-use Rattle.std.proofs.Common.{◌≡◌, ◌+◌, ◌-◌, ◌≤◌, length, arith, rules, sym, ◌∙◌}
+use Rattle.std.proofs.Common.{◌≡◌, ◌-◌, length, arith, rules, sym, ◌∙◌}
 use Rattle.std.specs.List.{slice_get}
-use Rattle.std.specs.declared.option.Option.TheVariants.{None, Some}
+use Rattle.std.specs.declared.option.Option.TheVariants.{Some}
 use Rattle.pc_model.proofs.BitsLemmas.{AreRuns-slice_get, add_run-last_apart, add_run-last_joins, add_run-none}
 use Rattle.pc_model.proofs.bits.append_zeros.Goals as goal
 use Rattle.pc_model.proofs.bits.append_zeros.Goals.{in_default-via-in-None-1, in_default-via-in-Some+else-start-length}

@@ -1,5 +1,5 @@
 -- The count is the number of the bits.
-use Rattle.std.proofs.Common.{sym, arith}
+use Rattle.std.proofs.Common.{sym}
 use Rattle.pc_model.proofs.BitsLemmas.{length-view}
 use Rattle.pc_model.proofs.bits.Bits.count.Goals as goal
 

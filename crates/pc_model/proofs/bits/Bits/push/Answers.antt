@@ -1,5 +1,5 @@
 -- One bit n times more.
-use Rattle.std.proofs.Common.{◌≡◌, ◌⊎◌, ◌+◌, ◌<◌, ◌^◌, Bool, true, length, arith, rules, sym, ap, ◌∙◌, inl, inr}
+use Rattle.std.proofs.Common.{◌≡◌, ◌⊎◌, true, length, arith, ap, inl, inr}
 use Rattle.pc_model.proofs.BitsLemmas.{AreBits-push, AreBits-push_zeros, bits_of-push, bits_of-push_zeros, length-view}
 use Rattle.pc_model.proofs.bits.Bits.push.Goals as goal
 use Rattle.pc_model.proofs.bits.Bits.push.Goals.{then-bit-via-then-bit, then-bit-via-else-bit+then-n-eq0}
@@ -28,8 +28,9 @@ pub invariant_of-self-2 : goal.invariant_of-self-2
 invariant_of-self-2 c =
     let count = ap length c.self.view_is in
     let is = length-view _ _ c.self.invariant in
+    let few = rw c.in_ok-append_zeros.ensures.ok at c.in_ok-append_zeros.ensures.few in
     rw c.in_ok-append_zeros.ensures.ok
-    (AreBits-push_zeros _ _ _ (omega arith) (omega (arith, count, is, c.requires)) c.self.invariant)
+    (AreBits-push_zeros _ _ _ (omega arith) few (omega (arith, count, is, c.requires)) c.self.invariant)
 
 pub returns-clause-ok : goal.returns-clause-ok
 returns-clause-ok c =
