@@ -1,0 +1,4 @@
+pub mod Arguments
+pub mod Kinds
+pub mod PlayScript
+pub mod Steps
