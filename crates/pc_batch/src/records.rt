@@ -1,12 +1,12 @@
 //! The records of a batch, given one after the other: clauses see what is left of them as a list.
 
-ghost use Rattle.std.specs.Prelude.{◌≡◌, ◌+◌, ◌<◌, ◌^◌, length};
+ghost use Rattle.std.specs.Prelude.{◌≡◌, ◌+◌, ◌<◌, ◌^◌, length, []};
 ghost use Rattle.pc_batch.specs.Record.{IsSound};
 ghost use Rattle.pc_batch.specs.Records.{records_at, front_records, counted};
 
 use crate::fault::BatchFault;
 use crate::fields;
-use crate::frame::Frame;
+use crate::frame::{Frame, Times};
 use crate::record::{self, RecordRef};
 use pc_bytes::Reader;
 use std::marker::Model;
@@ -34,6 +34,21 @@ impl<'a> Model for Records<'a> {
 }
 
 impl<'a> Records<'a> {
+    /// No records.
+    pub fn none() -> Records<'a>
+        ensures { result ≡ [] }
+    {
+        Records {
+            bytes: &[],
+            frame: Frame {
+                base: 0,
+                last: 0,
+                times: Times::All(0),
+            },
+            least: 0,
+        }
+    }
+
     /// The records that the bytes begin with.
     pub(crate) fn new(frame: Frame, bytes: &'a [u8]) -> Records<'a>
         requires { IsSound frame }
