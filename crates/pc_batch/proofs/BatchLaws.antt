@@ -292,3 +292,17 @@ pub read-fault : (log left : List ℕ) (at : ℕ) (r : Result Placed BatchFault)
 unfolding batch_fault
 read-fault log left at (Ok b) is fault = tt
 read-fault log left at (Err f) is fault = ap result_err (ap (batch_at at) (sym is) ∙ fault)
+
+-- ---- the same of a place of a log
+
+pub batch_from-takes : (log : List ℕ) (at : ℕ) (batch : Placed) → batch_at at (drop at log) ≡ Ok batch → IsBatchAt log at batch
+batch_from-takes log at batch e =
+    let t = batch-takes at (drop at log) batch e in
+    record { text = t.text; rest = t.rest; parts = t.parts; is_batch = t.is_batch; ends = t.ends }
+
+pub batch_from-again : (log : List ℕ) (at : ℕ) (batch : Placed) → IsBatchAt log at batch → batch_at at (drop at log) ≡ Ok batch
+batch_from-again log at batch is =
+    ap (batch_at at) is.parts ∙ batch-again at is.text is.rest batch.contents is.is_batch ∙ ap (λ (n : ℕ). Ok (ended n)) (sym is.ends)
+  where
+    ended : ℕ → Placed
+    ended n = record { contents = batch.contents; end = n }

@@ -38,7 +38,9 @@ impl<'a> Model for Batch<'a> {
       end = b.end;
     } };
 
-    ghost invariant = { λ b. IsSound b.frame × (b.found ≡ length (front_records (length b.records.now) b.frame b.frame.base b.records.now)) };
+    ghost invariant = { λ b. IsSound b.frame
+        × (b.found ≡ length
+        (front_records (length b.records.now) b.frame b.frame.base b.records.now)) };
 }
 
 impl<'a> Batch<'a> {
@@ -115,8 +117,8 @@ fn from_place(bytes: &[u8], at: u64) -> &[u8]
     rest
 }
 
-/// Reads the batch that begins at the place `at` of a log, and all of its records. What is refused has
-/// the first fault that applies, in the order of `BatchFault`.
+/// Reads the batch that begins at the place `at` of a log, and all of its records. What is refused
+/// has the first fault that applies, in the order of `BatchFault`.
 pub fn read_batch<'a>(bytes: &'a [u8], at: u64) -> Result<Batch<'a>, BatchFault>
     // What is read is a batch, and a batch is read.
     ensures found { IfOk result (λ b. IsBatchAt bytes.now at b) }

@@ -50,12 +50,12 @@ impl fmt::Display for RecordKind {
     }
 }
 
-/// Why no batch begins at a place: the first of these that applies, in this order. Places are counted
-/// from the first byte of the log.
+/// Why no batch begins at a place: the first of these that applies, in this order. Places are
+/// counted from the first byte of the log.
 #[derive(Clone, Copy, Debug, PartialEq, Eq)]
 pub enum BatchFault {
-    /// Fewer than `need` bytes are left at `place`: fewer than a header's 61, or, once the magic byte
-    /// and the length were read, fewer than the batch has.
+    /// Fewer than `need` bytes are left at `place`: fewer than a header's 61, or, once the magic
+    /// byte and the length were read, fewer than the batch has.
     Short { place: u64, need: u64 },
     /// The magic byte is not 2.
     BadMagic(i8),

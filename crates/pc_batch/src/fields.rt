@@ -37,7 +37,8 @@ fn part_of<'a>(
     negative: RecordKind,
     past: RecordKind,
 ) -> Result<&'a [u8], RecordKind>
-    ensures reads { Reads (λ part. part.now) (sized_of negative past len reader.old.bytes) reader.new.bytes result }
+    ensures reads { Reads (λ part. part.now) (sized_of negative past len reader.old.bytes)
+        reader.new.bytes result }
     ensures moves { Moves reader.old reader.new }
 {
     if len < 0 {
@@ -53,7 +54,8 @@ pub(crate) fn sized<'a>(
     negative: RecordKind,
     past: RecordKind,
 ) -> Result<&'a [u8], RecordKind>
-    ensures reads { Reads (λ part. part.now) (sized_at negative past reader.old.bytes) reader.new.bytes result }
+    ensures reads { Reads (λ part. part.now) (sized_at negative past reader.old.bytes)
+        reader.new.bytes result }
     ensures moves { Moves reader.old reader.new }
 {
     let len = int(reader)?;
@@ -66,7 +68,8 @@ pub(crate) fn nullable<'a>(
     reader: &mut Reader<'a>,
     below: RecordKind,
 ) -> Result<Option<&'a [u8]>, RecordKind>
-    ensures { Reads (λ part. option_copied part) (nullable_at below reader.old.bytes) reader.new.bytes result }
+    ensures { Reads (λ part. option_copied part) (nullable_at below reader.old.bytes)
+        reader.new.bytes result }
 {
     let len = int(reader)?;
     if len == -1 {

@@ -19,7 +19,8 @@ pub struct Headers<'a> {
 /// One header.
 #[tactic(auto, unfolding(crate::specs::Headers::header_at))]
 fn header<'a>(reader: &mut Reader<'a>) -> Result<(&'a [u8], Option<&'a [u8]>), RecordKind>
-    ensures { Reads (λ h. (h.0.now, option_copied h.1)) (header_at reader.old.bytes) reader.new.bytes result }
+    ensures { Reads (λ h. (h.0.now, option_copied h.1)) (header_at reader.old.bytes)
+        reader.new.bytes result }
 {
     let key = fields::sized(reader, RecordKind::HeaderKeyLength, RecordKind::Past)?;
     let value = fields::nullable(reader, RecordKind::HeaderValueLength)?;

@@ -1,5 +1,5 @@
-//! Kafka's record batches, version 2, read in place: a batch is accepted exactly where the bytes are of
-//! the grammar, and every key, value and header is lent from them. Nothing here takes memory.
+//! Kafka's record batches, version 2, read in place: a batch is accepted exactly where the bytes are
+//! of the grammar, and every key, value and header is lent from them. Nothing here takes memory.
 //!
 //! All numbers are big-endian. A batch is
 //!
@@ -13,8 +13,8 @@
 //!    23  lastOffsetDelta       int32        61  records
 //! ```
 //!
-//! (Kafka's documentation, "Record Batch"). `batchLength` counts the bytes after it, and `crc` is the
-//! CRC-32C of the bytes from `attributes` on. A record is its length (varint) and so many bytes:
+//! (Kafka's documentation, "Record Batch"). `batchLength` counts the bytes after it, and `crc` is
+//! the CRC-32C of the bytes from `attributes` on. A record is its length (varint) and so many bytes:
 //! attributes (int8), timestampDelta (varlong), offsetDelta (varint), the key and the value (each a
 //! varint of the length, -1 for null, and the bytes), the count of headers (varint), and for each
 //! header its key (a length and bytes) and its value (as a record's).

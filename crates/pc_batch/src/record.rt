@@ -82,7 +82,8 @@ pub(crate) fn next<'a>(
     reader: &mut Reader<'a>,
 ) -> Result<RecordRef<'a>, RecordKind>
     requires { IsSound frame.now }
-    ensures value { Reads plain (record_at frame.now least reader.old.bytes) reader.new.bytes result }
+    ensures value { Reads plain (record_at frame.now least reader.old.bytes)
+        reader.new.bytes result }
     ensures moves { Moves reader.old reader.new }
     ensures within { IfOk result (λ r. r.offset ≤ frame.now.last) }
 {

@@ -1,12 +1,12 @@
 //! The records of a batch, given one after the other: clauses see what is left of them as a list.
 
-ghost use Rattle.std.specs.Prelude.{◌≡◌, ◌+◌, ◌<◌, ◌^◌, length};
+ghost use Rattle.std.specs.Prelude.{◌≡◌, ◌+◌, ◌<◌, ◌^◌, length, []};
 ghost use Rattle.pc_batch.specs.Record.{IsSound};
 ghost use Rattle.pc_batch.specs.Records.{records_at, front_records, counted};
 
 use crate::fault::BatchFault;
 use crate::fields;
-use crate::frame::Frame;
+use crate::frame::{Frame, Times};
 use crate::record::{self, RecordRef};
 use pc_bytes::Reader;
 use std::marker::Model;
@@ -34,6 +34,21 @@ impl<'a> Model for Records<'a> {
 }
 
 impl<'a> Records<'a> {
+    /// No records.
+    pub fn none() -> Records<'a>
+        ensures { result ≡ [] }
+    {
+        Records {
+            bytes: &[],
+            frame: Frame {
+                base: 0,
+                last: 0,
+                times: Times::All(0),
+            },
+            least: 0,
+        }
+    }
+
     /// The records that the bytes begin with.
     pub(crate) fn new(frame: Frame, bytes: &'a [u8]) -> Records<'a>
         requires { IsSound frame }
@@ -73,7 +88,8 @@ pub(crate) fn count(frame: &Frame, bytes: &[u8], place: u64) -> Result<u32, Batc
     requires sound { IsSound frame.now }
     requires places { place + length bytes.now < 2 ^ 64 }
     requires room { length bytes.now < 2 ^ 32 }
-    ensures { result ≡ counted 0 (place + length bytes.now) (records_at (length bytes.now) frame.now frame.now.base bytes.now) }
+    ensures { result ≡ counted 0 (place + length bytes.now)
+        (records_at (length bytes.now) frame.now frame.now.base bytes.now) }
 {
     let mut reader = Reader::new(bytes, place);
     let mut least = frame.base;

@@ -22,7 +22,7 @@ const LOG: [u8; 91] = [
     0x14, 0x00, 0x00, 0x04, 0x02, 0x61, 0x06, 0x7A, 0x7A, 0x7A, 0x00,
 ];
 
-// The log with the bytes at some places changed, and its crc made anew where a change lies behind it.
+// The log with the bytes at some places changed, and its crc made anew where it covers a change.
 fn changed(changes: &[(usize, u8)]) -> [u8; 91] {
     let mut log = LOG;
     let mut covered = false;

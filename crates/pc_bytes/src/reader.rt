@@ -55,7 +55,8 @@ impl<'a> Reader<'a> {
 
     /// The next `n` bytes. Fails with `Short` where fewer are left.
     pub fn part(&mut self, n: usize) -> Result<&'a [u8], ByteFault>
-        ensures value { IfOk result (λ part. part_at n self.old.bytes ≡ Ok (part.now, self.new.bytes)) }
+        ensures value { IfOk result (λ part. part_at n self.old.bytes
+            ≡ Ok (part.now, self.new.bytes)) }
         ensures moves { Moves self.old self.new }
         ensures fault { IfErr result (λ f. IsFaultAt self.old.place (part_at n self.old.bytes) f) }
         ensures stays { OnErr result (self.new ≡ self.old) }
@@ -83,7 +84,8 @@ impl<'a> Reader<'a> {
     pub fn u8(&mut self) -> Result<u8, ByteFault>
         ensures value { IfOk result (λ n. number_at 1 self.old.bytes ≡ Ok (n, self.new.bytes)) }
         ensures moves { Moves self.old self.new }
-        ensures fault { IfErr result (λ f. IsFaultAt self.old.place (number_at 1 self.old.bytes) f) }
+        ensures fault { IfErr result (λ f. IsFaultAt self.old.place
+            (number_at 1 self.old.bytes) f) }
         ensures stays { OnErr result (self.new ≡ self.old) }
     {
         Ok(self.part(1)?[0])
@@ -93,7 +95,8 @@ impl<'a> Reader<'a> {
     pub fn i8(&mut self) -> Result<i8, ByteFault>
         ensures value { IfOk result (λ n. signed_at w8 self.old.bytes ≡ Ok (n, self.new.bytes)) }
         ensures moves { Moves self.old self.new }
-        ensures fault { IfErr result (λ f. IsFaultAt self.old.place (signed_at w8 self.old.bytes) f) }
+        ensures fault { IfErr result (λ f. IsFaultAt self.old.place
+            (signed_at w8 self.old.bytes) f) }
         ensures stays { OnErr result (self.new ≡ self.old) }
     {
         Ok(self.part(1)?[0].cast_signed())
@@ -103,7 +106,8 @@ impl<'a> Reader<'a> {
     pub fn i16(&mut self) -> Result<i16, ByteFault>
         ensures value { IfOk result (λ n. signed_at w16 self.old.bytes ≡ Ok (n, self.new.bytes)) }
         ensures moves { Moves self.old self.new }
-        ensures fault { IfErr result (λ f. IsFaultAt self.old.place (signed_at w16 self.old.bytes) f) }
+        ensures fault { IfErr result (λ f. IsFaultAt self.old.place
+            (signed_at w16 self.old.bytes) f) }
         ensures stays { OnErr result (self.new ≡ self.old) }
     {
         Ok(BigEndian::read_i16(self.part(2)?))
@@ -113,7 +117,8 @@ impl<'a> Reader<'a> {
     pub fn i32(&mut self) -> Result<i32, ByteFault>
         ensures value { IfOk result (λ n. signed_at w32 self.old.bytes ≡ Ok (n, self.new.bytes)) }
         ensures moves { Moves self.old self.new }
-        ensures fault { IfErr result (λ f. IsFaultAt self.old.place (signed_at w32 self.old.bytes) f) }
+        ensures fault { IfErr result (λ f. IsFaultAt self.old.place
+            (signed_at w32 self.old.bytes) f) }
         ensures stays { OnErr result (self.new ≡ self.old) }
     {
         Ok(BigEndian::read_i32(self.part(4)?))
@@ -123,7 +128,8 @@ impl<'a> Reader<'a> {
     pub fn u32(&mut self) -> Result<u32, ByteFault>
         ensures value { IfOk result (λ n. number_at 4 self.old.bytes ≡ Ok (n, self.new.bytes)) }
         ensures moves { Moves self.old self.new }
-        ensures fault { IfErr result (λ f. IsFaultAt self.old.place (number_at 4 self.old.bytes) f) }
+        ensures fault { IfErr result (λ f. IsFaultAt self.old.place
+            (number_at 4 self.old.bytes) f) }
         ensures stays { OnErr result (self.new ≡ self.old) }
     {
         Ok(BigEndian::read_u32(self.part(4)?))
@@ -133,7 +139,8 @@ impl<'a> Reader<'a> {
     pub fn i64(&mut self) -> Result<i64, ByteFault>
         ensures value { IfOk result (λ n. signed_at w64 self.old.bytes ≡ Ok (n, self.new.bytes)) }
         ensures moves { Moves self.old self.new }
-        ensures fault { IfErr result (λ f. IsFaultAt self.old.place (signed_at w64 self.old.bytes) f) }
+        ensures fault { IfErr result (λ f. IsFaultAt self.old.place
+            (signed_at w64 self.old.bytes) f) }
         ensures stays { OnErr result (self.new ≡ self.old) }
     {
         Ok(BigEndian::read_i64(self.part(8)?))
@@ -144,10 +151,12 @@ impl<'a> Reader<'a> {
     fn unsigned(&mut self, most: usize, limit: u128) -> Result<u64, ByteFault>
         requires most { most ≤ 10 }
         requires limit { limit ≤ 2 ^ 64 }
-        ensures value { IfOk result (λ n. unsigned_at most limit self.old.bytes ≡ Ok (n, self.new.bytes)) }
+        ensures value { IfOk result (λ n. unsigned_at most limit self.old.bytes
+            ≡ Ok (n, self.new.bytes)) }
         ensures fits { IfOk result (λ n. n < limit) }
         ensures moves { Moves self.old self.new }
-        ensures fault { IfErr result (λ f. IsFaultAt self.old.place (unsigned_at most limit self.old.bytes) f) }
+        ensures fault { IfErr result (λ f. IsFaultAt self.old.place
+            (unsigned_at most limit self.old.bytes) f) }
         ensures stays { OnErr result (self.new ≡ self.old) }
     {
         let last = varint::open_count(self.bytes, most);

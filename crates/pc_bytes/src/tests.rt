@@ -41,7 +41,7 @@ const VARINTS: [(&[u8], Result<i32, ByteFault>); 7] = [
     ),
 ];
 
-// Bytes and their CRC-32C, as the check value of the algorithm and the examples of RFC 3720 have it.
+// Bytes and their CRC-32C: the check value of the algorithm, and the examples of RFC 3720.
 const SUMS: [(&[u8], u32); 4] = [
     (b"", 0x0000_0000),
     (b"123456789", 0xE306_9283),

@@ -1,5 +1,5 @@
-//! Variable-length numbers, as the Kafka protocol guide has them: zigzag, then groups of seven bits,
-//! the low group first, each byte but the last with its top bit set.
+//! Variable-length numbers, as the Kafka protocol guide has them: zigzag, then groups of seven
+//! bits, the low group first, each byte but the last with its top bit set.
 
 ghost use Rattle.std.specs.Prelude.{◌≡◌, ◌≤◌, ◌++◌, ℕ, List, length, take, Ok, OnOk, OnErr};
 ghost use Rattle.std.specs.List.{prefix_len};
@@ -83,7 +83,8 @@ pub fn write_varint(out: &mut Vec<u8>, n: i32) -> Result<(), AllocError>
     ensures err { OnErr result (out.new.items ≡ out.old.items) }
     // What is appended is a spelling of n, none is shorter, and it is read again.
     ensures spells { IsVarint (shortest_of n) n }
-    ensures shortest { (other : List ℕ) → IsVarint other n → length (shortest_of n) ≤ length other }
+    ensures shortest { (other : List ℕ) → IsVarint other n
+        → length (shortest_of n) ≤ length other }
     ensures read_again { (rest : List ℕ) → varint_at (shortest_of n ++ rest) ≡ Ok (n, rest) }
 {
     put_groups(out, zigzag(i64::from(n)))
@@ -95,7 +96,8 @@ pub fn write_varlong(out: &mut Vec<u8>, n: i64) -> Result<(), AllocError>
     ensures err { OnErr result (out.new.items ≡ out.old.items) }
     // What is appended is a spelling of n, none is shorter, and it is read again.
     ensures spells { IsVarlong (shortest_of n) n }
-    ensures shortest { (other : List ℕ) → IsVarlong other n → length (shortest_of n) ≤ length other }
+    ensures shortest { (other : List ℕ) → IsVarlong other n
+        → length (shortest_of n) ≤ length other }
     ensures read_again { (rest : List ℕ) → varlong_at (shortest_of n ++ rest) ≡ Ok (n, rest) }
 {
     put_groups(out, zigzag(n))
