@@ -21,7 +21,7 @@ use Rattle.pc_model.specs.Marks.{commit_at, position_at, end_at, high_at, bits_a
 use Rattle.pc_model.specs.BestMap.{best_map}
 use Rattle.pc_model.specs.Lawful.{IsLawful, CommitIsLawful}
 use Rattle.pc_model.proofs.ListLemmas.{map-same, same_number}
-use Rattle.pc_laws.specs.Kept.{In}
+use Rattle.pc_laws.specs.Lists.{In}
 use Rattle.pc_laws.proofs.Lists.{or-right, true-not-false, In-append_left, In-append_right}
 use Rattle.pc_laws.proofs.PositionLaw.{held_apart}
 use Rattle.pc_model.proofs.EpochLaws.{epoch_of-assign, is_held-assign}

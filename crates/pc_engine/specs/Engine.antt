@@ -13,7 +13,7 @@ use Rattle.pc_model.specs.Epochs.{epoch_of, is_held}
 use Rattle.pc_model.specs.Stored.{may_store}
 use Rattle.pc_model.specs.Known.{assigned_by, begin_of}
 use Rattle.pc_model.specs.Lawful.{IsLegal}
-use Rattle.pc_laws.specs.Kept.{In}
+use Rattle.pc_laws.specs.Lists.{In}
 use Rattle.pc_engine.specs.declared.part.PartState.{PartState}
 
 -- an engine: what it was given, its journal, and its link

@@ -1,0 +1,5 @@
+pub mod FieldLemmas
+pub mod ReadingLemmas
+pub mod TextLemmas
+pub mod Utf8Lemmas
+pub mod WordLemmas

@@ -1,0 +1,23 @@
+//! The laws of these texts, as functions that do nothing: each event has one line and each history
+//! one text, which is read as it.
+
+ghost use Rattle.std.specs.Prelude.{◌≡◌, ℕ, List, Some, Ok};
+ghost use Rattle.pc_model.specs.declared.event.Event.{Event};
+ghost use Rattle.pc_print.specs.Line.{AreEvents, IsEnded, IsEvent, bare_line_of, text_of};
+ghost use Rattle.pc_print.specs.Reading.{event_of, history_of};
+
+/// The line of an event is read as the event, and no other line is.
+pub fn one_line_for_each_event()
+    ensures again { (event : Event) → IsEvent event → event_of (bare_line_of event) ≡ Some event }
+    ensures only { (line : List ℕ) (event : Event)
+        → event_of line ≡ Some event → (bare_line_of event ≡ line) × IsEvent event }
+{}
+
+/// The text of a history is read as the history, and no other text is, but for the last line feed,
+/// which may be missing.
+pub fn one_text_for_each_history()
+    ensures again { (history : List Event)
+        → AreEvents history → history_of (text_of history) ≡ Ok history }
+    ensures only { (text : List ℕ) (history : List Event)
+        → history_of text ≡ Ok history → IsEnded text (text_of history) × AreEvents history }
+{}
