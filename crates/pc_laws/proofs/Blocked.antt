@@ -21,7 +21,7 @@ use Rattle.pc_model.specs.OneMore.{is_job_of_part, SamePart}
 use Rattle.pc_model.specs.Lawful.{IsLegal, PollIsLawful, CommitIsLawful}
 use Rattle.pc_model.proofs.SamePart.{other_part}
 use Rattle.pc_model.proofs.KnownLaws.{commit_of-same, is_blocked-same, polled_count-poll}
-use Rattle.pc_laws.specs.Kept.{In}
+use Rattle.pc_laws.specs.Lists.{In}
 use Rattle.pc_laws.proofs.Lists.{and-right, In-append, In-filtered, greatest_of-In}
 use Rattle.pc_laws.proofs.Rising.{Rises, Rises-In, Rises-lower, known_of}
 use Rattle.pc_laws.proofs.Passing.{marks_by, In-complete_offsets}

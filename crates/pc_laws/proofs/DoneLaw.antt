@@ -14,7 +14,7 @@ use Rattle.pc_model.specs.Epochs.{is_held}
 use Rattle.pc_model.specs.Stored.{may_store, passes}
 use Rattle.pc_model.specs.Known.{begin_of, polled_count, records_from_begin, polled_records, unpolled_records, known_records, is_complete, marks_of, position_of}
 use Rattle.pc_model.specs.Lawful.{IsLegal, is_nil, is_stored, is_finished, held_parts}
-use Rattle.pc_laws.specs.Kept.{In}
+use Rattle.pc_laws.specs.Lists.{In}
 use Rattle.pc_laws.proofs.Lists.{and-left, and-right, or-left, In-filter, In-append_left, list_all-In}
 use Rattle.pc_laws.proofs.Passing.{In-incomplete}
 use Rattle.pc_laws.proofs.Position.{take-drop-In}

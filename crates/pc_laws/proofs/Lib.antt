@@ -9,3 +9,5 @@ pub mod PositionLaw
 pub mod Blocked
 pub mod DoneLaw
 pub mod StallLaw
+pub mod JobsLaw
+pub mod KeptLaw

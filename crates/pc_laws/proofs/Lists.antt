@@ -5,7 +5,7 @@ use Rattle.std.specs.List.{list_any, list_all}
 use Rattle.std.specs.Option.{option_map_or}
 use Rattle.std.proofs.lemmas.Bool.{cases_Bool, cases_lt}
 use Rattle.pc_model.specs.Numbers.{least_of, greatest_of}
-pub use Rattle.pc_laws.specs.Kept.{In}
+pub use Rattle.pc_laws.specs.Lists.{In}
 
 -- ---- tests
 

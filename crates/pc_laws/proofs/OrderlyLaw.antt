@@ -13,7 +13,7 @@ use Rattle.pc_model.specs.Known.{assigned_commit, begin_of, polled_count, record
 use Rattle.pc_model.specs.Next.{ordering_key, is_busy, is_before, is_first, is_eligible_record, eligible_offsets, next_of_part, next_record}
 use Rattle.pc_model.specs.Lawful.{IsLegal, DispatchIsLawful}
 use Rattle.pc_model.specs.Sound.{DispatchIsOrderly, RecordIsOrderly, IsOrderly}
-use Rattle.pc_laws.specs.Kept.{In}
+use Rattle.pc_laws.specs.Lists.{In}
 use Rattle.pc_laws.proofs.Lists.{and-left, and-right, or-cases, or-left, or-right, not-true, In-filter, In-filtered, In-find, In-mapped, list_all-In, list_all-each, least_of-In}
 use Rattle.pc_laws.proofs.Rising.{Rises, Rises-filter, Rises-same, legal-rises, take-below, take-In}
 use Rattle.pc_laws.proofs.Passing.{option_cases}
@@ -88,7 +88,7 @@ module _ (given : Given) (h : List Event) (p : ℕ) (r : Record)
   unfolding is_eligible_record
   eligible-first = and-right _ _ (and-left _ _ (and-left _ _ (and-left _ _ eligible)))
 
-polled-record : (given : Given) (h : List Event) (p : ℕ) (r : Record) → In r
+pub polled-record : (given : Given) (h : List Event) (p : ℕ) (r : Record) → In r
     (polled_records given h p)
     → In r (records_of given p) × (nat_le (begin_of h p) r.offset ≡ true)
 unfolding polled_records
@@ -111,7 +111,8 @@ earlier-done given h p r q rises polled first i = elim
           let from = In-filter (λ x. nat_le (begin_of h p) x.offset) q (records_of given p) i
           (and-left _ _ earlier) in
           let q_polled = take-below (polled_count h p) 0 (records_from_begin given h p) q r
-          (Rises-filter (λ x. nat_le (begin_of h p) x.offset) 0 (records_of given p) rises) from polled
+          (Rises-filter (λ x. nat_le (begin_of h p) x.offset) 0 (records_of given p) rises) from
+          polled
           (omega arith) in
           let test = list_all-In (λ x. not (is_before given p x r) || is_complete h p x.offset) q
           (polled_records given h p) first q_polled in

@@ -140,17 +140,19 @@ module _ (k end n b limit : ℕ) (xs : List Record) (f : ℕ → Bool) (rises : 
     | inl done ↦ done
     | inr not_done ↦ elim (option_cases
         (least_of (incomplete_offsets (marks_by f (known_of k end xs))))) [
-          | inl none ↦ elim (option_cases (greatest_of (offsets_of (marks_by f (known_of k end xs))))) [
-            | inl nothing ↦ let at : r.offset < b = rw (none, nothing) at below in absurd (omega arith)
-            | inr most ↦
-                let at : r.offset < most.0 + 1 = rw (none, most.1) at below in
-                let last = In-offsets_of f (known_of k end xs) most.0
-                (greatest_of-In most.0 _ most.1) in
-                let is : last.0.offset ≡ most.0 = last.2 in
-                let within = known_of-below k end n xs r last.0 rises i last.1 (omega arith) in
-                absurd (least_of-none r.offset _ none
-                (In-incomplete f (known_of k end xs) r within not_done))
-          ]
+          | inl none ↦ elim (option_cases
+              (greatest_of (offsets_of (marks_by f (known_of k end xs))))) [
+                | inl nothing ↦ let at : r.offset < b = rw (none, nothing) at below in absurd
+                    (omega arith)
+                | inr most ↦
+                    let at : r.offset < most.0 + 1 = rw (none, most.1) at below in
+                    let last = In-offsets_of f (known_of k end xs) most.0
+                    (greatest_of-In most.0 _ most.1) in
+                    let is : last.0.offset ≡ most.0 = last.2 in
+                    let within = known_of-below k end n xs r last.0 rises i last.1 (omega arith) in
+                    absurd (least_of-none r.offset _ none
+                    (In-incomplete f (known_of k end xs) r within not_done))
+              ]
           | inr least ↦
               let at : r.offset < least.0 = rw least.1 at below in
               let first = In-incomplete_offsets f (known_of k end xs) least.0

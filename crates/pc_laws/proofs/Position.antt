@@ -7,7 +7,7 @@ use Rattle.std.proofs.lemmas.Bool.{cases_Bool, cases_lt}
 use Rattle.pc_model.specs.Record.{Record}
 use Rattle.pc_model.specs.Numbers.{least_of, greatest_of}
 use Rattle.pc_model.specs.Marks.{Mark, offsets_of, incomplete_offsets, end_at, position_at}
-use Rattle.pc_laws.specs.Kept.{In}
+use Rattle.pc_laws.specs.Lists.{In}
 use Rattle.pc_laws.proofs.Lists.{In-append_left, In-append_right, In-filter, In-filtered, true-not-false, least_of-In, least_of-least, least_of-none, greatest_of-In, greatest_of-greatest, greatest_of-none}
 use Rattle.pc_laws.proofs.Rising.{Rises, known_of, known_of-below}
 use Rattle.pc_laws.proofs.Passing.{option_cases, marks_by, In-incomplete, In-incomplete_offsets, In-offsets, In-offsets_of}

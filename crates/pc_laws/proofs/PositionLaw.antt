@@ -17,8 +17,8 @@ use Rattle.pc_model.specs.Lawful.{IsLegal, CommitIsLawful}
 use Rattle.pc_model.proofs.SamePart.{other_part}
 use Rattle.pc_model.proofs.KnownLaws.{position_of-same, polled_count-poll, assigned_commit-assign}
 use Rattle.pc_model.proofs.StoredLaws.{may_store-assign, may_store-commit, may_store-commit_failed}
-use Rattle.pc_laws.specs.Kept.{In}
-use Rattle.pc_laws.specs.Positions.{CommitsUpTo, PositionsRise}
+use Rattle.pc_laws.specs.Lists.{In}
+use Rattle.pc_laws.specs.Positions.{first_position, IsInOrder, CommitsUpTo, PositionsRise}
 use Rattle.pc_laws.proofs.Lists.{or-cases, or-left, or-right, true-not-false, In-filtered, In-append, In-append_left}
 use Rattle.pc_laws.proofs.Rising.{Rises, Rises-filter, legal-rises, known_of, known_of-In}
 use Rattle.pc_laws.proofs.Position.{IsPosition, is_position, begin-le, position-le, known_of-more, known_of-above}
@@ -131,11 +131,6 @@ position_of-le given Closed h p legal apart = same-le _ _ refl
 
 -- ---- what may be stored is in order
 
--- the position of the first of some commits
-abbrev pub first_position : List Commit → ℕ
-first_position [] = 0
-first_position (c ∷ cs) = c.position
-
 pub CommitsUpTo-more : (h : List Event) (p x y : ℕ) → x ≤ y → CommitsUpTo h p x → CommitsUpTo h p y
 CommitsUpTo-more [] p x y le upto = tt
 CommitsUpTo-more (Committed q position text size ∷ h) p x y le upto = (
@@ -144,17 +139,6 @@ CommitsUpTo-more (Committed q position text size ∷ h) p x y le upto = (
   CommitsUpTo-more h p x y le upto.1,
 )
 CommitsUpTo-more (v ∷ h) p x y le upto = CommitsUpTo-more h p x y le upto
-
--- the first commit that may be stored for a part is not above the others, nor are the stored
--- commits above it; and while the part is held none is above its position
-pub record IsInOrder (given : Given) (h : List Event) (p : ℕ) : Type 0 where
-  pub first : (c : Commit) → In c (may_store given h p) → first_position
-      (may_store given h p) ≤ c.position
-  pub within : (c : Commit) → is_held h p ≡ true → In c (may_store given h p) →
-      c.position ≤ position_of given h p
-  pub commits : CommitsUpTo h p (first_position (may_store given h p))
-  pub some : (c : Commit) × In c (may_store given h p) ×
-      (first_position (may_store given h p) ≡ c.position)
 
 -- an event that leaves the part's commits and does not move it
 module _ (given : Given) (v : Event) (h : List Event) (p : ℕ) (order : IsInOrder given h p)

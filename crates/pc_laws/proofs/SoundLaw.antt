@@ -16,7 +16,8 @@ use Rattle.pc_model.specs.Stored.{may_store, passes, map_end, stored_after, same
 use Rattle.pc_model.specs.Known.{assigned_commit, begin_of, polled_count, records_from_begin, polled_records, unpolled_records, known_records, is_job_at, is_success_at, has_succeeded, is_complete, marks_of, commit_of}
 use Rattle.pc_model.specs.Lawful.{IsLegal, CommitIsLawful}
 use Rattle.pc_model.specs.Sound.{is_current_job_at, is_current_success, was_done, MayPass, PassesSoundly, IsSound}
-use Rattle.pc_laws.specs.Kept.{In, IsKept}
+use Rattle.pc_laws.specs.Lists.{In}
+use Rattle.pc_laws.specs.Kept.{KeepsPassing}
 use Rattle.pc_laws.proofs.Lists.{and-left, and-right, or-cases, or-left, or-right, In-filter, In-find, In-list_any, In-append}
 use Rattle.pc_laws.proofs.Rising.{Rises-filter, legal-rises}
 use Rattle.pc_laws.proofs.Passing.{option_cases, passed_is_complete}
@@ -49,7 +50,8 @@ current_job h (Some j) p e o at current =
 
 -- ---- the commit of a held part
 
-module _ (given : Given) (h : List Event) (legal : IsLegal given h) (kept : IsKept given h) (p : ℕ)
+module _ (given : Given) (h : List Event) (legal : IsLegal given h) (kept : KeepsPassing given h)
+    (p : ℕ)
     (held : is_held h p ≡ true) where
   -- a complete offset may be passed over
   pub complete_passes : (o : ℕ) → is_complete h p o ≡ true → MayPass given h p o
@@ -107,19 +109,20 @@ entry-In cs c entry =
     (and-right (c.position == at.0.position) (bytes_eq c.map at.0.map) at.2) in
     rw (Commit-same c.position at.0.position c.map at.0.map position text) at.1
 
-module _ (given : Given) (v : Event) (h : List Event) (kept : IsKept given h)
+module _ (given : Given) (v : Event) (h : List Event) (kept : KeepsPassing given h)
     (done : (p e o : ℕ) → is_success_at v h p e o ≡ true → is_current_success v h p o ≡ true)
     (assigned : (p : ℕ) → is_held (v ∷ h) p ≡ true
     → ((is_held h p ≡ true) × (assigned_commit (v ∷ h) p ≡ assigned_commit h p))
     ⊎ PassesSoundly given h p (assigned_commit (v ∷ h) p))
     (stored : (p : ℕ) (c : Commit) → In c (may_store given (v ∷ h) p) → In c (may_store given h p)
     ⊎ PassesSoundly given h p c) where
-  IsKept-more : IsKept given (v ∷ h)
-  IsKept-more = record {
+  KeepsPassing-more : KeepsPassing given (v ∷ h)
+  KeepsPassing-more = record {
     done = λ p e o succeeded. elim
         (or-cases (is_success_at v h p e o) (has_succeeded h p e o) succeeded) [
           | inl now ↦ or-left (is_current_success v h p o) (was_done h p o) (done p e o now)
-          | inr before ↦ or-right (is_current_success v h p o) (was_done h p o) (kept.done p e o before)
+          | inr before ↦ or-right (is_current_success v h p o) (was_done h p o)
+              (kept.done p e o before)
         ];
     assigned = λ p held. elim (assigned p held) [
       | inl same ↦ PassesSoundly-more given v h p (assigned_commit (v ∷ h) p)
@@ -133,7 +136,7 @@ module _ (given : Given) (v : Event) (h : List Event) (kept : IsKept given h)
   }
 
 -- a lawful commit, stored or failed, passes over nothing else
-pub commit-sound : (given : Given) (h : List Event) → IsLegal given h → IsKept given h →
+pub commit-sound : (given : Given) (h : List Event) → IsLegal given h → KeepsPassing given h →
     (q position : ℕ) (text : List ℕ) (size : ℕ)
     → CommitIsLawful given h q position text size → PassesSoundly given h q
     (record { position = position; map = text })
@@ -180,62 +183,74 @@ held_before : (b held : Bool) → cond b false held ≡ true → held ≡ true
 held_before true held e = cc
 held_before false held e = e
 
-pub is_kept : (given : Given) (h : List Event) → given.is_told ≡ true → IsLegal given h →
-    IsKept given h
-is_kept given [] told legal = record {
+pub keeps_passing : (given : Given) (h : List Event) → given.is_told ≡ true → IsLegal given h →
+    KeepsPassing given h
+keeps_passing given [] told legal = record {
   done = λ p e o succeeded. cc;
   assigned = λ p held. cc;
   stored = λ p c i o passed. inr
       (inl (elim i [ inl same ↦ rw (← same) passed | inr none ↦ absurd none ]));
 }
-is_kept given (Poll q count last ∷ h) told legal = IsKept-more given (Poll q count last) h
-    (is_kept given h told legal.2) (λ p e o s. cc) (λ p held. inl (held, refl)) (λ p c i. inl i)
-is_kept given (Dispatch t w q o e a ∷ h) told legal = IsKept-more given (Dispatch t w q o e a) h
-    (is_kept given h told legal.2) (λ p e o s. cc) (λ p held. inl (held, refl)) (λ p c i. inl i)
-is_kept given (Failure t code ready ∷ h) told legal = IsKept-more given (Failure t code ready) h
-    (is_kept given h told legal.2) (λ p e o s. cc) (λ p held. inl (held, refl)) (λ p c i. inl i)
-is_kept given (Stale t ∷ h) told legal = IsKept-more given (Stale t) h
-    (is_kept given h told legal.2) (λ p e o s. cc) (λ p held. inl (held, refl)) (λ p c i. inl i)
-is_kept given (Tick now ∷ h) told legal = IsKept-more given (Tick now) h
-    (is_kept given h told legal.2) (λ p e o s. cc) (λ p held. inl (held, refl)) (λ p c i. inl i)
-is_kept given (Drain ∷ h) told legal = IsKept-more given Drain h (is_kept given h told legal.2)
+keeps_passing given (Poll q count last ∷ h) told legal = KeepsPassing-more given
+    (Poll q count last) h
+    (keeps_passing given h told legal.2) (λ p e o s. cc) (λ p held. inl (held, refl))
+    (λ p c i. inl i)
+keeps_passing given (Dispatch t w q o e a ∷ h) told legal = KeepsPassing-more given
+    (Dispatch t w q o e a) h
+    (keeps_passing given h told legal.2) (λ p e o s. cc) (λ p held. inl (held, refl))
+    (λ p c i. inl i)
+keeps_passing given (Failure t code ready ∷ h) told legal = KeepsPassing-more given
+    (Failure t code ready) h
+    (keeps_passing given h told legal.2) (λ p e o s. cc) (λ p held. inl (held, refl))
+    (λ p c i. inl i)
+keeps_passing given (Stale t ∷ h) told legal = KeepsPassing-more given (Stale t) h
+    (keeps_passing given h told legal.2) (λ p e o s. cc) (λ p held. inl (held, refl))
+    (λ p c i. inl i)
+keeps_passing given (Tick now ∷ h) told legal = KeepsPassing-more given (Tick now) h
+    (keeps_passing given h told legal.2) (λ p e o s. cc) (λ p held. inl (held, refl))
+    (λ p c i. inl i)
+keeps_passing given (Drain ∷ h) told legal = KeepsPassing-more given Drain h
+    (keeps_passing given h told legal.2)
     (λ p e o s. cc) (λ p held. inl (held, refl)) (λ p c i. inl i)
-is_kept given (Done ∷ h) told legal = IsKept-more given Done h (is_kept given h told legal.2)
+keeps_passing given (Done ∷ h) told legal = KeepsPassing-more given Done h
+    (keeps_passing given h told legal.2)
     (λ p e o s. cc) (λ p held. inl (held, refl)) (λ p c i. inl i)
-is_kept given (Closed ∷ h) told legal = IsKept-more given Closed h (is_kept given h told legal.2)
+keeps_passing given (Closed ∷ h) told legal = KeepsPassing-more given Closed h
+    (keeps_passing given h told legal.2)
     (λ p e o s. cc) (λ p held. inl (held, refl)) (λ p c i. inl i)
-is_kept given (Crash ∷ h) told legal = IsKept-more given Crash h (is_kept given h told legal.2)
+keeps_passing given (Crash ∷ h) told legal = KeepsPassing-more given Crash h
+    (keeps_passing given h told legal.2)
     (λ p e o s. cc) (λ p held. cc) (λ p c i. inl i)
-is_kept given (Success t answer ∷ h) told legal = IsKept-more given (Success t answer) h
-    (is_kept given h told legal.2)
+keeps_passing given (Success t answer ∷ h) told legal = KeepsPassing-more given (Success t answer) h
+    (keeps_passing given h told legal.2)
     (λ p e o s. current_job h (job_of h t) p e o s legal.0.current) (λ p held. inl (held, refl))
     (λ p c i. inl i)
-is_kept given (Revoke q epoch ∷ h) told legal = IsKept-more given (Revoke q epoch) h
-    (is_kept given h told legal.2)
+keeps_passing given (Revoke q epoch ∷ h) told legal = KeepsPassing-more given (Revoke q epoch) h
+    (keeps_passing given h told legal.2)
     (λ p e o s. cc) (λ p held. inl (held_before (q == p) (is_held h p) held, refl)) (λ p c i. inl i)
-is_kept given (Lost q epoch ∷ h) told legal = IsKept-more given (Lost q epoch) h
-    (is_kept given h told legal.2)
+keeps_passing given (Lost q epoch ∷ h) told legal = KeepsPassing-more given (Lost q epoch) h
+    (keeps_passing given h told legal.2)
     (λ p e o s. cc) (λ p held. inl (held_before (q == p) (is_held h p) held, refl)) (λ p c i. inl i)
-is_kept given (Assign q epoch position text ∷ h) told legal =
-    let kept = is_kept given h told legal.2 in
+keeps_passing given (Assign q epoch position text ∷ h) told legal =
+    let kept = keeps_passing given h told legal.2 in
     let c : Commit = record { position = position; map = text } in
     let sound : PassesSoundly given h q c = kept.stored q c
     (entry-In (may_store given h q) c (legal.0.stored told)) in
-    IsKept-more given (Assign q epoch position text) h kept (λ p e o s. cc)
+    KeepsPassing-more given (Assign q epoch position text) h kept (λ p e o s. cc)
     (λ p held. assigned_cases given h q p c sound held)
     (λ p d i. stored_cases given h q p c d sound
     (stored_after-In (q == p) c d (may_store given h p) i))
-is_kept given (Committed q position text size ∷ h) told legal =
-    let kept = is_kept given h told legal.2 in
-    IsKept-more given (Committed q position text size) h kept (λ p e o s. cc)
+keeps_passing given (Committed q position text size ∷ h) told legal =
+    let kept = keeps_passing given h told legal.2 in
+    KeepsPassing-more given (Committed q position text size) h kept (λ p e o s. cc)
     (λ p held. inl (held, refl))
     (λ p d i. stored_cases given h q p (record { position = position; map = text }) d
     (commit-sound given h legal.2 kept q position text size legal.0)
     (stored_after-In (q == p) (record { position = position; map = text }) d
     (may_store given h p) i))
-is_kept given (CommitFailed q position text size ∷ h) told legal =
-    let kept = is_kept given h told legal.2 in
-    IsKept-more given (CommitFailed q position text size) h kept (λ p e o s. cc)
+keeps_passing given (CommitFailed q position text size ∷ h) told legal =
+    let kept = keeps_passing given h told legal.2 in
+    KeepsPassing-more given (CommitFailed q position text size) h kept (λ p e o s. cc)
     (λ p held. inl (held, refl))
     (λ p d i. stored_cases given h q p (record { position = position; map = text }) d
     (commit-sound given h legal.2 kept q position text size legal.0)
@@ -249,12 +264,12 @@ pub is_sound : (given : Given) (h : List Event) → given.is_told ≡ true → I
 is_sound given [] told legal = tt
 is_sound given (Committed q position text size ∷ h) told legal = (
   commit-sound given h legal.2
-      (is_kept given h told legal.2) q position text size legal.0,
+      (keeps_passing given h told legal.2) q position text size legal.0,
   is_sound given h told legal.2,
 )
 is_sound given (CommitFailed q position text size ∷ h) told legal = (
   commit-sound given h legal.2
-      (is_kept given h told legal.2) q position text size legal.0,
+      (keeps_passing given h told legal.2) q position text size legal.0,
   is_sound given h told legal.2,
 )
 is_sound given (v ∷ h) told legal = (tt, is_sound given h told legal.2)

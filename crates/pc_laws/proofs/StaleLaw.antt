@@ -14,7 +14,7 @@ use Rattle.pc_model.specs.OneMore.{SamePart}
 use Rattle.pc_model.proofs.SamePart.{other_part}
 use Rattle.pc_model.proofs.JobLaws.{open_jobs-settled}
 use Rattle.pc_model.proofs.NextLaws.{eligible_offsets-same, next_record-same}
-use Rattle.pc_laws.specs.Kept.{In}
+use Rattle.pc_laws.specs.Lists.{In}
 use Rattle.pc_laws.proofs.Lists.{In-filtered, not-false}
 
 -- a test that fails on what a filter leaves out finds the same in it

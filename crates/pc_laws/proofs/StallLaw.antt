@@ -25,7 +25,7 @@ use Rattle.pc_model.specs.Retry.{now_of, failures_of, ready_of}
 use Rattle.pc_model.specs.Next.{ordering_key, same_key, has_key, is_busy, is_before, is_first, is_eligible_record, eligible_offsets}
 use Rattle.pc_model.specs.Lawful.{IsLegal}
 use Rattle.pc_model.specs.Run.{open_records, may_poll_next, poll_number, new_successes, is_spent}
-use Rattle.pc_laws.specs.Kept.{In}
+use Rattle.pc_laws.specs.Lists.{In}
 use Rattle.pc_laws.specs.Stall.{HasWork, IsLeastOpen, GoesOn}
 use Rattle.pc_laws.specs.Stall.GoesOn.{JobIsOut, IsEligible, Waits, PollIsOpen, CommitIsDue, IsSpent}
 use Rattle.pc_laws.proofs.Lists.{and-left, and-right, not-true, true-not-false, In-map, In-filter, In-filtered, In-append, In-list_any, list_any-In, list_all-each}
@@ -165,7 +165,8 @@ module _ (given : Given) (h : List Event) (p : ℕ) (legal : IsLegal given h) wh
   unfolding open_records polled_records unpolled_records
   known-open r i waits = elim
       (In-append r (take (polled_count h p) (records_from_begin given h p)) _ i) [
-        | inl polled ↦ inl (In-filter (λ q. not (is_complete h p q.offset)) r _ polled (rw waits refl))
+        | inl polled ↦ inl (In-filter (λ q. not (is_complete h p q.offset)) r _ polled
+            (rw waits refl))
         | inr rest ↦ inr (In-filtered _ r
             (drop (polled_count h p) (records_from_begin given h p)) rest).0
       ]
@@ -410,7 +411,8 @@ goes_on given h p legal held running work = elim
             goes_on-open given h p legal held least.0
             (record { is_open = least.1; least = least.2 }) idle
         | inl none ↦ elim work [
-          | inr one ↦ let nothing : In one.0 [] = subst (λ (rs : List Record). In one.0 rs) none one.1
+          | inr one ↦ let nothing : In one.0 [] = subst
+              (λ (rs : List Record). In one.0 rs) none one.1
               in absurd nothing
           | inl one ↦ elim running [
             | inl not_draining ↦ goes_on-poll given h p legal held one.0 one.1 none not_draining

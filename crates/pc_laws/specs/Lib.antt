@@ -1,3 +1,4 @@
+pub mod Lists
 pub mod Kept
 pub mod Positions
 pub mod Stall

@@ -10,7 +10,7 @@ use Rattle.pc_model.specs.Pressure.{is_blocked}
 use Rattle.pc_model.specs.Retry.{now_of, ready_of}
 use Rattle.pc_model.specs.Next.{eligible_offsets}
 use Rattle.pc_model.specs.Run.{open_records, poll_number, is_commit_due, is_spent}
-use Rattle.pc_laws.specs.Kept.{In}
+use Rattle.pc_laws.specs.Lists.{In}
 
 -- a record from the begin on is left that was not polled, or was and is incomplete
 abbrev pub HasWork : Given → List Event → ℕ → Type 0

@@ -4,7 +4,7 @@
 //! Each function does nothing; its clause is the law, for every setup, log, start and history.
 #![tactic(auto)]
 
-ghost use Rattle.std.specs.Prelude.{ℕ, List, [], ◌∷◌, ◌≡◌, ◌≤◌, ◌⊎◌, true, false};
+ghost use Rattle.std.specs.Prelude.{ℕ, List, [], ◌∷◌, ◌++◌, ◌≡◌, ◌≤◌, ◌⊎◌, true, false};
 ghost use Rattle.pc_model.specs.declared.event.Event.{Event};
 ghost use Rattle.pc_model.specs.declared.event.Event.TheVariants.{Stale, Done};
 ghost use Rattle.pc_model.specs.declared.commit.Commit.{Commit};
@@ -17,7 +17,8 @@ ghost use Rattle.pc_model.specs.Known.{unpolled_records, is_complete, position_o
 ghost use Rattle.pc_model.specs.Next.{eligible_offsets, next_record};
 ghost use Rattle.pc_model.specs.Lawful.{IsLegal};
 ghost use Rattle.pc_model.specs.Sound.{IsSound, IsOrderly};
-ghost use Rattle.pc_laws.specs.Kept.{In, IsKept};
+ghost use Rattle.pc_laws.specs.Lists.{In};
+ghost use Rattle.pc_laws.specs.Kept.{IsKept};
 ghost use Rattle.pc_laws.specs.Positions.{PositionsRise};
 ghost use Rattle.pc_laws.specs.Stall.{HasWork, GoesOn};
 
@@ -33,10 +34,15 @@ pub fn legal_is_orderly()
     ensures { (given : Given) (h : List Event) → IsLegal given h → IsOrderly given h }
 {}
 
-/// What soundness rests on, and what every legal history keeps over a link that tells its store.
+/// What a legal history was before its newest events is a legal history.
+pub fn prefix_is_legal()
+    ensures { (given : Given) (later h : List Event) → IsLegal given (later ++ h) →
+        IsLegal given h }
+{}
+
+/// The facts that the laws rest on.
 pub fn legal_is_kept()
-    ensures { (given : Given) (h : List Event) → given.is_told ≡ true → IsLegal given h →
-        IsKept given h }
+    ensures { (given : Given) (h : List Event) → IsLegal given h → IsKept given h }
 {}
 
 /// A stale result changes nothing that is said of any part, nor which records may be dispatched.

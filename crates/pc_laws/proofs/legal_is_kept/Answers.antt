@@ -1,5 +1,5 @@
 -- By induction on the history.
-use Rattle.pc_laws.proofs.SoundLaw.{is_kept}
+use Rattle.pc_laws.proofs.KeptLaw.{is_kept}
 use Rattle.pc_laws.proofs.legal_is_kept.Goals as goal
 
 pub returns : goal.returns
