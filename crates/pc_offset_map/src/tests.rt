@@ -23,37 +23,44 @@ const FAULTS: [(u64, &str, MapFault); 16] = [
     (LAST + 1, "bgAAAAA=", MapFault::PastLastOffset),
 ];
 
-/// Some offsets.
-type Offsets = &'static [u64];
+/// Texts that read, with their bases and their last offsets.
+const LASTS: [(u64, &str, Option<u64>); 7] = [
+    (10, "bAAFGg==", Some(14)),
+    (0, "bAAJ", Some(8)),
+    (0, "bgAAAAA=", None),
+    (0, "bgABA+c=", Some(999)),
+    (10, "bwAAAAIC", Some(11)),
+    (0, "ZQAAAAEAAJxA", Some(40_000)),
+    (LAST - 1, "bAABAQ==", Some(LAST - 1)),
+];
 
-/// Texts that read, with their bases, their last offsets, the offsets that they pass and others
-/// that they do not.
-const MAPS: [(u64, &str, Option<u64>, Offsets, Offsets); 7] = [
-    (
-        10,
-        "bAAFGg==",
-        Some(14),
-        &[11, 13, 14],
-        &[0, 9, 10, 12, 15, u64::MAX],
-    ),
-    (0, "bAAJ", Some(8), &[], &[0, 4, 8, 9]),
-    (0, "bgAAAAA=", None, &[], &[0, 1]),
-    (0, "bgABA+c=", Some(999), &[1, 500, 999], &[0, 1_000]),
-    (10, "bwAAAAIC", Some(11), &[11], &[9, 10, 12]),
-    (
-        0,
-        "ZQAAAAEAAJxA",
-        Some(40_000),
-        &[1, 20_000, 40_000],
-        &[0, 40_001],
-    ),
-    (
-        LAST - 1,
-        "bAABAQ==",
-        Some(LAST - 1),
-        &[LAST - 1],
-        &[LAST - 2, LAST],
-    ),
+/// Texts that read, with their bases, an offset, and whether they pass it.
+const PASSES: [(u64, &str, u64, bool); 25] = [
+    (10, "bAAFGg==", 0, false),
+    (10, "bAAFGg==", 9, false),
+    (10, "bAAFGg==", 10, false),
+    (10, "bAAFGg==", 11, true),
+    (10, "bAAFGg==", 12, false),
+    (10, "bAAFGg==", 13, true),
+    (10, "bAAFGg==", 14, true),
+    (10, "bAAFGg==", 15, false),
+    (10, "bAAFGg==", u64::MAX, false),
+    (0, "bAAJ", 0, false),
+    (0, "bAAJ", 8, false),
+    (0, "bgAAAAA=", 0, false),
+    (0, "bgABA+c=", 0, false),
+    (0, "bgABA+c=", 999, true),
+    (0, "bgABA+c=", 1_000, false),
+    (10, "bwAAAAIC", 10, false),
+    (10, "bwAAAAIC", 11, true),
+    (10, "bwAAAAIC", 12, false),
+    (0, "ZQAAAAEAAJxA", 0, false),
+    (0, "ZQAAAAEAAJxA", 1, true),
+    (0, "ZQAAAAEAAJxA", 40_000, true),
+    (0, "ZQAAAAEAAJxA", 40_001, false),
+    (LAST - 1, "bAABAQ==", LAST - 2, false),
+    (LAST - 1, "bAABAQ==", LAST - 1, true),
+    (LAST - 1, "bAABAQ==", LAST, false),
 ];
 
 /// 2^63 - 1.
@@ -74,16 +81,19 @@ fn the_empty_text_is_no_map(rt: HostRuntime) -> Result<(), Fail> {
 }
 
 #[test]
-fn maps_pass_their_offsets(rt: HostRuntime) -> Result<(), Fail> {
-    for (base, text, last, passed, others) in MAPS {
+fn maps_end_at_their_last_offsets(rt: HostRuntime) -> Result<(), Fail> {
+    for (base, text, last) in LASTS {
         let map = read_map(rt.alloc(), base, text.as_bytes())?.expect(&rt, "a map");
         assert_eq!(rt; map.last(), last, "at {text}");
-        for offset in passed {
-            assert!(rt; map.passes(*offset), "{text} at {offset}");
-        }
-        for offset in others {
-            assert!(rt; !map.passes(*offset), "{text} at {offset}");
-        }
+    }
+    Ok(())
+}
+
+#[test]
+fn maps_pass_their_offsets(rt: HostRuntime) -> Result<(), Fail> {
+    for (base, text, offset, passed) in PASSES {
+        let map = read_map(rt.alloc(), base, text.as_bytes())?.expect(&rt, "a map");
+        assert_eq!(rt; map.passes(offset), passed, "{text} at {offset}");
     }
     Ok(())
 }
