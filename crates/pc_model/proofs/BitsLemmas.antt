@@ -210,7 +210,7 @@ bits_of-push count n runs bit (inr none) are = rw (none, add-zero, append-nil) r
 -- n more bits that leave the runs
 pub AreBits-push : (count n : ℕ) (runs : List (ℕ × ℕ)) → count + n < 2 ^ 63 → AreBits count runs → AreBits (count + n) runs
 AreBits-push count n runs small are =
-    record { in_order = AreRuns-more 0 count n runs are.in_order; small = small }
+    record { in_order = AreRuns-more 0 count n runs are.in_order; few = are.few; small = small }
 
 -- n more 0 bits
 pub bits_of-push_zeros : (count n : ℕ) (runs : List (ℕ × ℕ)) → AreBits count runs
@@ -218,7 +218,7 @@ pub bits_of-push_zeros : (count n : ℕ) (runs : List (ℕ × ℕ)) → AreBits 
 bits_of-push_zeros count n runs are = bits_of-add_run 0 0 count n runs (omega arith) (omega arith) are.in_order
 
 -- n more 0 bits
-pub AreBits-push_zeros : (count n : ℕ) (runs : List (ℕ × ℕ)) → 0 < n → count + n < 2 ^ 63 → AreBits count runs
+pub AreBits-push_zeros : (count n : ℕ) (runs : List (ℕ × ℕ)) → 0 < n → length (add_run runs count n) ≤ 2 ^ 59 → count + n < 2 ^ 63 → AreBits count runs
     → AreBits (count + n) (add_run runs count n)
-AreBits-push_zeros count n runs pos small are =
-    record { in_order = AreRuns-add_run 0 count n runs pos (omega arith) are.in_order; small = small }
+AreBits-push_zeros count n runs pos few small are =
+    record { in_order = AreRuns-add_run 0 count n runs pos (omega arith) are.in_order; few = few; small = small }

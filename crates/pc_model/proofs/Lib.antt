@@ -19,3 +19,4 @@ pub mod ReadingLemmas
 pub mod RunLemmas
 pub mod RunsAt
 pub mod Tables
+pub mod BitAtLemmas

@@ -2,6 +2,7 @@
 use Rattle.std.proofs.Common.{◌≡◌, ℕ, zero, suc, ◌+◌, ◌-◌, ◌<◌, ◌≤◌, Bool, true, false, List, [], ◌∷◌, ◌++◌, length, take, drop, replicate, refl, sym, ap, subst, ◌∙◌, arith, inl, inr, add-one, zero-add}
 use Rattle.std.proofs.lemmas.List.{append_assoc, drop_at, length-append, length-replicate, length-take-le, take-append-drop, take_at}
 use Rattle.std.proofs.lemmas.Bool.{cases_eq, eq-eqb, ne_eqb}
+use Rattle.std.proofs.lemmas.Option.{slice_get_within}
 use Rattle.std.specs.List.{slice_get}
 use Rattle.std.specs.declared.option.Option.TheVariants.{None, Some}
 use Rattle.pc_model.proofs.BitsLemmas.{AreRuns-lower}
@@ -83,12 +84,18 @@ pub record IsAtRun (bits : List Bool) (i place : ℕ) : Type 0 where
 
 -- what a run adds to the bits before it
 pub record IsNextRun (bits : List Bool) (i place start size : ℕ) : Type 0 where
+  pub left : i < length (zero_runs bits)
+  pub few : i ≤ length bits
   pub after : place ≤ start
   pub some : 0 < size
   pub within : start + size ≤ length bits
   pub ones : take start bits ≡ take place bits ++ replicate (start - place) true
   pub zeros : take (start + size) bits ≡ take start bits ++ replicate size false
+  pub rest_ones : drop place bits ≡ replicate (start - place) true ++ drop start bits
+  pub rest_zeros : drop start bits ≡ replicate size false ++ drop (start + size) bits
   pub next : IsAtRun bits (i + 1) (start + size)
+  pub apart : AreRuns (start + size + 1) (length bits) (drop (i + 1) (zero_runs bits))
+  pub same : drop i (zero_runs bits) ≡ (start, size) ∷ drop (i + 1) (zero_runs bits)
 
 -- the walk begins before the first run
 pub IsAtRun-start : (bits : List Bool) → IsAtRun bits 0 0
@@ -105,7 +112,7 @@ drop-slice_get (y ∷ ys) zero x is = let same : y ≡ x = cc is in rw same refl
 drop-slice_get (y ∷ ys) (suc i) x is = drop-slice_get ys i x is
 
 -- a list after its last element
-drop-slice_get_none : {X : Type 0} (xs : List X) (i : ℕ) → slice_get xs i ≡ None → drop i xs ≡ []
+pub drop-slice_get_none : {X : Type 0} (xs : List X) (i : ℕ) → slice_get xs i ≡ None → drop i xs ≡ []
 drop-slice_get_none [] zero is = refl
 drop-slice_get_none [] (suc i) is = refl
 drop-slice_get_none (y ∷ ys) zero is = cc is
@@ -119,6 +126,12 @@ take-more bits piece rest place n within is len =
     let front : length (take place bits ++ piece) ≡ place + n = length-append (take place bits) piece ∙ rw (length-take-le place bits within, len) refl in
     (ap (take (place + n)) whole ∙ take_at (take place bits ++ piece) rest (place + n) front, ap (drop (place + n)) whole ∙ drop_at (take place bits ++ piece) rest (place + n) front)
 
+-- there are not many more runs than bits
+length-AreRuns : (least count : ℕ) (runs : List (ℕ × ℕ)) → least ≤ count + 1 → AreRuns least count runs → length runs + least ≤ count + 1
+length-AreRuns least count [] fits are = omega arith
+length-AreRuns least count (run ∷ runs) fits are =
+    let ih = length-AreRuns (run.0 + run.1 + 1) count runs (omega (arith, are.2)) are.3 in omega (arith, ih, are.0, are.1)
+
 -- the walk goes on to the next run
 pub IsNextRun-at : (bits : List Bool) (i place start size : ℕ) → IsAtRun bits i place → slice_get (zero_runs bits) i ≡ Some (start, size) → IsNextRun bits i place start size
 IsNextRun-at bits i place start size at is =
@@ -131,12 +144,20 @@ IsNextRun-at bits i place start size at is =
     let ones_at : drop start bits ≡ replicate size false ++ bits_of (start + size) (length bits) later = rw gap at ones.1 in
     let zeros = take-more bits (replicate size false) (bits_of (start + size) (length bits) later) start size (omega (arith, are.2)) ones_at (length-replicate size false) in
     let next : suc i ≡ i + 1 = omega arith in
+    let left = slice_get_within (zero_runs bits) i (start, size) is in
+    let count = length-AreRuns 0 (length bits) (zero_runs bits) (omega arith) (rw (drop_at [] (zero_runs bits) 0 refl) at (IsAtRun-start bits).in_order) in
     record {
+      left = left;
+      few = omega (arith, left, count);
       after = are.0;
       some = are.1;
       within = are.2;
       ones = rw gap at ones.0;
       zeros = zeros.0;
+      rest_ones = rw ones_at rest;
+      rest_zeros = rw zeros.1 ones_at;
+      apart = rw (← next) are.3;
+      same = rw (← next) runs;
       next = record {
         rest = rw (← next) zeros.1;
         in_order = rw (← next) (AreRuns-lower (start + size) (start + size + 1) (length bits) later (omega arith) are.3);

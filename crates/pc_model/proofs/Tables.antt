@@ -28,3 +28,9 @@ pub table_const : {X : Type 0} (f : ℕ → X) (x : X) (a n : ℕ) → ((i : ℕ
 table_const f x a zero same = refl
 table_const f x a (suc n) same =
     rw (same a (omega arith), table_const f x (a + 1) n (λ i h. same i (omega arith))) refl
+
+-- the same where the function has that value at the table's own places
+pub table_const_below : {X : Type 0} (f : ℕ → X) (x : X) (a n : ℕ) → ((i : ℕ) → a ≤ i → i < a + n → f i ≡ x) → map f (range_with_len a n) ≡ replicate n x
+table_const_below f x a zero same = refl
+table_const_below f x a (suc n) same =
+    rw (same a (omega arith) (omega arith), table_const_below f x (a + 1) n (λ i low high. same i (omega arith) (omega arith))) refl

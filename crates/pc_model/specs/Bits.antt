@@ -1,5 +1,5 @@
 -- Completion bits: lists of truth values, false where an offset is incomplete, and their runs.
-use Rattle.std.specs.Prelude.{ℕ, ◌+◌, ◌-◌, ◌^◌, ◌≤◌, ◌<◌, ◌==◌, Bool, true, false, not, if◌then◌else◌, List, [], ◌∷◌, ◌++◌, map, replicate}
+use Rattle.std.specs.Prelude.{ℕ, ◌+◌, ◌-◌, ◌^◌, ◌≤◌, ◌<◌, ◌==◌, Bool, true, false, not, if◌then◌else◌, List, [], ◌∷◌, ◌++◌, map, length, replicate}
 use Rattle.std.specs.List.{list_any, range_with_len}
 
 -- a truth value for each offset from low to high, false exactly at the incomplete ones
@@ -38,6 +38,7 @@ AreRuns least count (run ∷ runs) = (least ≤ run.0) × (0 < run.1) × (run.0 
 -- what a count and its runs keep
 pub record AreBits (count : ℕ) (runs : List (ℕ × ℕ)) : Type 0 where
   pub in_order : AreRuns 0 count runs
+  pub few : length runs ≤ 2 ^ 59
   pub small : count < 2 ^ 63
 
 -- the runs with one more of n 0 bits at this place, which joins the last where that ends there

@@ -1,6 +1,6 @@
 -- What a run is given: the setup, the logs, what was stored before, and whether the link tells its
 -- store.
-use Rattle.std.specs.Prelude.{ℕ, suc, Bool, true, ◌&&◌, ◌==◌, nat_le, List, [], ◌∷◌, length, Option, is_some, unwrap_or, find, slice_get}
+use Rattle.std.specs.Prelude.{ℕ, suc, ◌-◌, ◌^◌, Bool, true, ◌&&◌, ◌==◌, nat_le, nat_lt, List, [], ◌∷◌, length, Option, is_some, unwrap_or, find, slice_get}
 use Rattle.std.specs.List.{list_all, range_with_len}
 use Rattle.std.specs.Option.{option_map_or, option_flatten}
 use Rattle.pc_model.specs.declared.setup.Setup.{Setup}
@@ -41,10 +41,11 @@ abbrev pub start_of : Given → ℕ → Commit
 start_of given p = option_map_or (λ s. record { position = s.position; map = s.map })
     (find (λ s. s.part == p) given.start) no_commit
 
--- whether the offsets of a log rise, all of them at least `least`
+-- whether the offsets of a log rise, all of them at least `least` and at most 2^63 - 2
 abbrev pub rises_from : ℕ → List Record → Bool
 rises_from least [] = true
-rises_from least (r ∷ rs) = nat_le least r.offset && rises_from (suc r.offset) rs
+rises_from least (r ∷ rs) = nat_le least r.offset
+    && (nat_lt r.offset (2 ^ 63 - 1) && rises_from (suc r.offset) rs)
 
 -- whether each log's offsets rise
 abbrev pub all_logs_rise : Given → Bool

@@ -1,10 +1,13 @@
 //! Completion bits as runs. Clauses see the list of truth values.
 
-ghost use Rattle.std.specs.Prelude.{◌≡◌, ℕ, ◌+◌, ◌^◌, ◌<◌, Bool, List, [], ◌++◌, length, replicate, OnOk, OnErr, slice_get};
+ghost use Rattle.std.specs.Prelude.{◌≡◌, ℕ, ◌+◌, ◌^◌, ◌<◌, ◌≤◌, Bool, List, [], ◌++◌, length, replicate, OnOk, OnErr, slice_get};
 ghost use Rattle.pc_model.specs.Bits.{AreBits, AreRuns, add_run, bits_of, zero_runs};
 
 use std::alloc::{AllocError, Global};
 use std::marker::Model;
+
+// Pairs of eight bytes each: more of them pass the address space.
+const MOST_RUNS: usize = 1 << 59;
 
 /// A list of truth values, kept as their number and the place and length of each run of 0 bits.
 /// The memory goes by the number of runs.
@@ -44,7 +47,8 @@ impl Bits {
 
     /// How many runs of 0 bits there are.
     pub fn runs(&self) -> u64
-        ensures { result ≡ length (zero_runs self.now) }
+        ensures count { result ≡ length (zero_runs self.now) }
+        ensures few { result ≤ 2 ^ 59 }
     {
         self.zeros.as_slice().len() as u64
     }
@@ -76,15 +80,20 @@ impl Bits {
 fn append_zeros(zeros: &mut Vec<(u64, u64)>, place: u64, n: u64) -> Result<(), AllocError>
     requires in_order { AreRuns 0 place zeros.old.items }
     requires small { place + n < 2 ^ 63 }
+    requires few { length zeros.old.items ≤ 2 ^ 59 }
     ensures ok { OnOk result (zeros.new.items ≡ add_run zeros.old.items place n) }
+    ensures few { length zeros.new.items ≤ 2 ^ 59 }
     ensures err { OnErr result (zeros.new.items ≡ zeros.old.items) }
 {
+    let runs = zeros.as_slice().len();
     if let Some(&(start, length)) = zeros.last()
         && start + length == place
     {
-        let last = zeros.len() - 1;
-        zeros[last] = (start, length + n);
+        zeros[runs - 1] = (start, length + n);
         return Ok(());
+    }
+    if runs >= MOST_RUNS {
+        return Err(AllocError);
     }
     zeros.push((place, n))?;
     Ok(())

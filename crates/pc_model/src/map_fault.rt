@@ -3,6 +3,7 @@
 ghost use Rattle.std.specs.Prelude.{◌≡◌};
 ghost use Rattle.pc_model.specs.declared.map_fault.MapFault.TheVariants.{NoMemory};
 
+use crate::BitsFault;
 use std::alloc::AllocError;
 use thiserror::Error;
 
@@ -40,5 +41,21 @@ impl From<AllocError> for MapFault {
 
     fn from(_e: AllocError) -> MapFault {
         MapFault::NoMemory
+    }
+}
+
+impl From<BitsFault> for MapFault {
+    ghost use Rattle.pc_model.specs.MapReading.{map_fault_of};
+
+    ghost from_gives = { λ fault e. e ≡ map_fault_of fault };
+
+    fn from(fault: BitsFault) -> MapFault {
+        match fault {
+            BitsFault::ShortNumber => MapFault::ShortNumber,
+            BitsFault::NegativeNumber => MapFault::NegativeNumber,
+            BitsFault::TooManyBytes => MapFault::TooManyBytes,
+            BitsFault::TooManyBits => MapFault::PastLastOffset,
+            BitsFault::NoMemory => MapFault::NoMemory,
+        }
     }
 }

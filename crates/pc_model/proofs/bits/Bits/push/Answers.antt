@@ -28,8 +28,9 @@ pub invariant_of-self-2 : goal.invariant_of-self-2
 invariant_of-self-2 c =
     let count = ap length c.self.view_is in
     let is = length-view _ _ c.self.invariant in
+    let few = rw c.in_ok-append_zeros.ensures.ok at c.in_ok-append_zeros.ensures.few in
     rw c.in_ok-append_zeros.ensures.ok
-    (AreBits-push_zeros _ _ _ (omega arith) (omega (arith, count, is, c.requires)) c.self.invariant)
+    (AreBits-push_zeros _ _ _ (omega arith) few (omega (arith, count, is, c.requires)) c.self.invariant)
 
 pub returns-clause-ok : goal.returns-clause-ok
 returns-clause-ok c =

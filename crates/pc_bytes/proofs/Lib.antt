@@ -1,0 +1,5 @@
+pub mod CrcLemmas
+pub mod CrcTables
+pub mod PutLemmas
+pub mod VarintLaws
+pub mod VarintLemmas

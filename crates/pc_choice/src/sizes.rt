@@ -1,0 +1,50 @@
+//! The sizes of the texts that a map could have, found without spelling any.
+
+ghost use Rattle.std.specs.Prelude.{◌≡◌};
+ghost use Rattle.std.specs.Option.{option_map};
+ghost use Rattle.pc_model.specs.BestMap.{shortest_text};
+ghost use Rattle.pc_choice.specs.Sizes.{sized, smaller_size, text_size};
+
+use pc_model::{BITSET, BITSET_2, Bits, RUN_LENGTH, RUN_LENGTH_2};
+
+// The most bytes after the letter whose text has at most 4,294,967,294 characters.
+const MOST_BYTES: u64 = 3_221_225_468;
+
+/// The letter of the shortest text and how many characters that has. None where no encoding can
+/// hold the bits in at most 4,294,967,294 characters. Ties go to `l`, `n`, `o` and `e` in this
+/// order.
+pub fn shortest(bits: &Bits) -> Option<(u8, u32)>
+    ensures { result ≡ option_map sized (shortest_text bits.now) }
+{
+    let version_1 = smaller(
+        size_of(BITSET, pc_bitset::length_v1(bits)),
+        size_of(RUN_LENGTH, pc_runlength::length_v1(bits)),
+    );
+    let with_bitset = smaller(version_1, size_of(BITSET_2, pc_bitset::length_v2(bits)));
+    smaller(
+        with_bitset,
+        size_of(RUN_LENGTH_2, pc_runlength::length_v2(bits)),
+    )
+}
+
+/// How many characters the letter and so many bytes have in base64.
+fn size_of(letter: u8, bytes: Option<u64>) -> Option<(u8, u32)>
+    ensures { result ≡ text_size letter bytes }
+{
+    let bytes = bytes?;
+    if bytes > MOST_BYTES {
+        return None;
+    }
+    Some((letter, ((bytes + 3) / 3 * 4) as u32))
+}
+
+/// The smaller size, and of two equal ones the first.
+fn smaller(first: Option<(u8, u32)>, second: Option<(u8, u32)>) -> Option<(u8, u32)>
+    ensures { result ≡ smaller_size first second }
+{
+    match (first, second) {
+        (Some(a), Some(b)) if b.1 < a.1 => Some(b),
+        (None, _) => second,
+        _ => first,
+    }
+}

@@ -1,0 +1,124 @@
+-- Where nothing refuses the assignment, the part's state and the journal take it in.
+use Rattle.std.proofs.Common.{◌≡◌, ◌+◌, ◌≤◌, ◌<◌, ◌∷◌, List, length, None, vec_len, ap, subst, true, false, Ok, ◌∙◌, arith, get_or}
+use Rattle.pc_model.specs.declared.commit.Commit.{Commit}
+use Rattle.pc_model.specs.declared.event.Event.{Event}
+use Rattle.pc_model.specs.declared.event.Event.TheVariants.{Assign}
+use Rattle.pc_model.specs.Epochs.{epoch_of}
+use Rattle.pc_engine.specs.Effect.{Does, assign_step, assign_refusal}
+use Rattle.pc_engine.specs.Engine.{given_by}
+use Rattle.pc_engine.proofs.EngineLemmas.{refused-none, assign-below, epoch-small, assigned-free, assigned-given, assigned-keeps, assigned-does}
+use Rattle.pc_engine.proofs.engine.Engine.assign.Goals as goal
+
+pub index_mut-requires : goal.index_mut-requires
+index_mut-requires g c =
+    let none : assign_refusal c.args.self.now.given c.args.self.now.journal.events c.args.part
+    ≡ None = refused-none _ _ c.in_ok-may_assign.ensures in
+    let inner : assign_refusal
+    (given_by c.self.inside.setup.now
+    (length c.self.inside.parts.items) c.self.inside.journal.events
+    (g.K.Keeper.is_told c.self.inside.link) (g.K.Keeper.kept c.self.inside.link))
+    c.self.inside.journal.events c.args.part ≡ None = rw (← c.self.view_is) at none in
+    let below : c.args.part < length c.self.inside.parts.items =
+    assign-below c.self.inside.setup.now c.self.inside.journal.events
+    (g.K.Keeper.is_told c.self.inside.link) (g.K.Keeper.kept c.self.inside.link)
+    c.self.inside.parts.items c.self.invariant c.args.part inner in
+    let count : vec_len c.self.inside.parts ≡ length c.self.inside.parts.items =
+    c.self.inside.parts.ok.0 in
+    rw count below
+
+pub overflow_add-epoch : goal.overflow_add-epoch
+overflow_add-epoch g c =
+    let none : assign_refusal c.args.self.now.given c.args.self.now.journal.events c.args.part
+    ≡ None = refused-none _ _ c.in_ok-may_assign.ensures in
+    let inner : assign_refusal
+    (given_by c.self.inside.setup.now
+    (length c.self.inside.parts.items) c.self.inside.journal.events
+    (g.K.Keeper.is_told c.self.inside.link) (g.K.Keeper.kept c.self.inside.link))
+    c.self.inside.journal.events c.args.part ≡ None = rw (← c.self.view_is) at none in
+    let below : c.args.part < length c.self.inside.parts.items =
+    assign-below c.self.inside.setup.now c.self.inside.journal.events
+    (g.K.Keeper.is_told c.self.inside.link) (g.K.Keeper.kept c.self.inside.link)
+    c.self.inside.parts.items c.self.invariant c.args.part inner in
+    let small : (get_or c.self.inside.parts.items c.args.part c.index.result.now).epoch + 1 ≤
+    4000001 =
+    epoch-small c.self.inside.setup.now c.self.inside.journal.events
+    (g.K.Keeper.is_told c.self.inside.link) (g.K.Keeper.kept c.self.inside.link)
+    c.self.inside.parts.items c.self.invariant c.args.part c.index.result.now below in
+    let is = ap (λ s. s.epoch) c.index.ensures in omega arith
+
+pub invariant_of-self-2 : goal.invariant_of-self-2
+invariant_of-self-2 g c =
+    let none : assign_refusal c.args.self.now.given c.args.self.now.journal.events c.args.part
+    ≡ None = refused-none _ _ c.in_ok-may_assign.ensures in
+    let inner : assign_refusal
+    (given_by c.self.inside.setup.now
+    (length c.self.inside.parts.items) c.self.inside.journal.events
+    (g.K.Keeper.is_told c.self.inside.link) (g.K.Keeper.kept c.self.inside.link))
+    c.self.inside.journal.events c.args.part ≡ None = rw (← c.self.view_is) at none in
+    assigned-keeps c.self.inside.setup.now c.self.inside.journal.events
+    (g.K.Keeper.is_told c.self.inside.link) (g.K.Keeper.kept c.self.inside.link)
+    c.self.inside.parts.items c.self.invariant c.args.part inner c.in_ok-stored.stored
+    (g.K.Keeper.kept c.fetch.new.link) (g.K.Keeper.is_told c.fetch.new.link)
+    c.index.result.now c.index.result.now c.reserve.new.self.events c.push.new.self.events
+    c.in_ok-stored.ensures.ok c.in_ok-stored.ensures.keeps c.in_ok-stored.ensures.told
+    c.index.ensures c.in_ok-reserve.ensures.events c.push.ensures.events
+
+pub returns-clause-free : goal.returns-clause-free
+returns-clause-free g c =
+    let none : assign_refusal c.args.self.now.given c.args.self.now.journal.events c.args.part
+    ≡ None = refused-none _ _ c.in_ok-may_assign.ensures in
+    let inner : assign_refusal
+    (given_by c.self.inside.setup.now
+    (length c.self.inside.parts.items) c.self.inside.journal.events
+    (g.K.Keeper.is_told c.self.inside.link) (g.K.Keeper.kept c.self.inside.link))
+    c.self.inside.journal.events c.args.part ≡ None = rw (← c.self.view_is) at none in
+    subst (λ (k : List Event). (x : Commit) ×
+    (c.push.new.self.events ≡ Assign c.args.part (epoch_of k c.args.part + 1) x.position x.map
+    ∷ k)) (ap (λ v. v.journal.events) c.self.view_is)
+    (assigned-free c.self.inside.setup.now c.self.inside.journal.events
+    (g.K.Keeper.is_told c.self.inside.link) (g.K.Keeper.kept c.self.inside.link)
+    c.self.inside.parts.items c.self.invariant c.args.part inner c.in_ok-stored.stored
+    (g.K.Keeper.kept c.fetch.new.link) (g.K.Keeper.is_told c.fetch.new.link)
+    c.index.result.now c.index.result.now c.reserve.new.self.events c.push.new.self.events
+    c.in_ok-stored.ensures.ok c.in_ok-stored.ensures.keeps c.in_ok-stored.ensures.told
+    c.index.ensures c.in_ok-reserve.ensures.events c.push.ensures.events)
+
+pub returns-clause-given : goal.returns-clause-given
+returns-clause-given g c =
+    let none : assign_refusal c.args.self.now.given c.args.self.now.journal.events c.args.part
+    ≡ None = refused-none _ _ c.in_ok-may_assign.ensures in
+    let inner : assign_refusal
+    (given_by c.self.inside.setup.now
+    (length c.self.inside.parts.items) c.self.inside.journal.events
+    (g.K.Keeper.is_told c.self.inside.link) (g.K.Keeper.kept c.self.inside.link))
+    c.self.inside.journal.events c.args.part ≡ None = rw (← c.self.view_is) at none in
+    assigned-given c.self.inside.setup.now c.self.inside.journal.events
+    (g.K.Keeper.is_told c.self.inside.link) (g.K.Keeper.kept c.self.inside.link)
+    c.self.inside.parts.items c.self.invariant c.args.part inner c.in_ok-stored.stored
+    (g.K.Keeper.kept c.fetch.new.link) (g.K.Keeper.is_told c.fetch.new.link)
+    c.index.result.now c.index.result.now c.reserve.new.self.events c.push.new.self.events
+    c.in_ok-stored.ensures.ok c.in_ok-stored.ensures.keeps c.in_ok-stored.ensures.told
+    c.index.ensures c.in_ok-reserve.ensures.events c.push.ensures.events
+    ∙ ap (λ v. v.given) c.self.view_is
+
+pub returns-clause-effect : goal.returns-clause-effect
+returns-clause-effect g c =
+    let none : assign_refusal c.args.self.now.given c.args.self.now.journal.events c.args.part
+    ≡ None = refused-none _ _ c.in_ok-may_assign.ensures in
+    let inner : assign_refusal
+    (given_by c.self.inside.setup.now
+    (length c.self.inside.parts.items) c.self.inside.journal.events
+    (g.K.Keeper.is_told c.self.inside.link) (g.K.Keeper.kept c.self.inside.link))
+    c.self.inside.journal.events c.args.part ≡ None = rw (← c.self.view_is) at none in
+    subst (λ v. g.K.Keeper.is_told v.link ≡ true → Does (Ok tt)
+    (assign_step v.given v.journal.events c.args.part false
+    (g.K.Keeper.kept v.link c.args.part)) v.journal.events c.push.new.self.events)
+    c.self.view_is
+    (λ is. assigned-does c.self.inside.setup.now c.self.inside.journal.events
+    (g.K.Keeper.is_told c.self.inside.link) (g.K.Keeper.kept c.self.inside.link)
+    c.self.inside.parts.items c.self.invariant c.args.part inner c.in_ok-stored.stored
+    (g.K.Keeper.kept c.fetch.new.link) (g.K.Keeper.is_told c.fetch.new.link)
+    c.index.result.now c.index.result.now c.reserve.new.self.events c.push.new.self.events
+    c.in_ok-stored.ensures.ok c.in_ok-stored.ensures.keeps c.in_ok-stored.ensures.told
+    c.index.ensures c.in_ok-reserve.ensures.events c.push.ensures.events is
+    c.in_ok-check_map.ensures.ok)

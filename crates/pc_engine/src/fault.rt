@@ -1,0 +1,64 @@
+//! Why the engine refused a call.
+
+ghost use Rattle.std.specs.Prelude.{◌≡◌};
+ghost use Rattle.pc_engine.specs.declared.fault.EngineFault.TheVariants.{NoMemory};
+
+use crate::client::ClientFault;
+use pc_model::MapFault;
+use std::alloc::{AllocError, AllocFailed};
+
+/// Why the engine refused a call. After a refusal all is as before, but for a failed commit.
+#[derive(Clone, Copy, Debug, PartialEq, Eq)]
+pub enum EngineFault {
+    /// The engine has ended.
+    Closed,
+    /// The part has no log.
+    UnknownPart,
+    /// The part is held already.
+    AlreadyHeld,
+    /// The part is not held.
+    NotHeld,
+    /// The engine drains.
+    Draining,
+    /// The part is blocked, and the next record is above its greatest complete offset, `high`.
+    Pressed {
+        high: u64,
+    },
+    /// With the events of this call and those kept for jobs that are out there would be more than
+    /// 4,000,000.
+    JournalFull,
+    /// The record at this offset of the part was not polled or is not complete.
+    NotDone {
+        part: u32,
+        offset: u64,
+    },
+    /// The part's position is not certainly stored: `stored` may be.
+    Uncommitted {
+        part: u32,
+        stored: u64,
+        position: u64,
+    },
+    /// The link's client failed, never for want of memory. After a failed commit the event of that
+    /// stands in the journal, and the store may have the commit.
+    Client(ClientFault),
+    /// The stored map does not read, and the setup refuses such maps. Never for want of memory.
+    BadMap(MapFault),
+    /// Memory ran out.
+    NoMemory,
+}
+
+impl From<AllocError> for EngineFault {
+    ghost from_gives = { λ _ e. e ≡ NoMemory };
+
+    fn from(_e: AllocError) -> EngineFault {
+        EngineFault::NoMemory
+    }
+}
+
+impl<T: Drop> From<AllocFailed<T>> for EngineFault {
+    ghost from_gives = { λ _ e. e ≡ NoMemory };
+
+    fn from(_e: AllocFailed<T>) -> EngineFault {
+        EngineFault::NoMemory
+    }
+}

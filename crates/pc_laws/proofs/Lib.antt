@@ -1,0 +1,13 @@
+pub mod Lists
+pub mod Rising
+pub mod Passing
+pub mod SoundLaw
+pub mod OrderlyLaw
+pub mod StaleLaw
+pub mod Position
+pub mod PositionLaw
+pub mod Blocked
+pub mod DoneLaw
+pub mod StallLaw
+pub mod JobsLaw
+pub mod KeptLaw

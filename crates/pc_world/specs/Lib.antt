@@ -1,0 +1,4 @@
+pub mod World
+pub mod MemoryFiles
+pub mod MemorySink
+pub mod MemoryKeeper

@@ -1,0 +1,52 @@
+//! Files on the disk. They tell nothing of their contents.
+
+ghost use Rattle.std.specs.Prelude.{◌≡◌, ◌+◌, ◌≤◌, OnErr, OnOk, take, vec_len};
+
+use crate::files::{FILE_BYTES_MAX, Files, FilesFault};
+use std::io::Read;
+use std::{fs, io};
+
+/// Files on the disk, read by their paths.
+#[derive(Drop)]
+pub struct DiskFiles<'a, R: std::rt::Files> {
+    rt: &'a R,
+    faults: u64,
+}
+
+impl<'a, R: std::rt::Files> DiskFiles<'a, R> {
+    /// The files that the runtime reaches.
+    pub fn new(rt: &'a R) -> DiskFiles<'a, R> {
+        DiskFiles { rt, faults: 0 }
+    }
+
+    /// Reads one byte more than a file may have at the most.
+    fn read_some(&self, name: &str, into: &mut Vec<u8>) -> io::Result<()>
+        ensures { take (vec_len into.old) into.new.items ≡ into.old.items }
+    {
+        let file = fs::open(self.rt, name)?;
+        file.take(FILE_BYTES_MAX + 1).read_to_end(into)?;
+        Ok(())
+    }
+}
+
+impl<'a, R: std::rt::Files> Files for DiskFiles<'a, R> {
+    ghost use Rattle.std.specs.Prelude.{None};
+
+    ghost told = { λ _ _. None };
+
+    ghost faults = { λ f. f.faults };
+
+    fn read(&mut self, name: &str, into: &mut Vec<u8>) -> Result<(), FilesFault> {
+        let start = into.len();
+        if self.read_some(name, into).is_err() {
+            into.truncate(start);
+            self.faults = self.faults.saturating_add(1);
+            return Err(FilesFault::Failed);
+        }
+        if (into.len() - start) as u64 > FILE_BYTES_MAX {
+            into.truncate(start);
+            return Err(FilesFault::TooLong);
+        }
+        Ok(())
+    }
+}
