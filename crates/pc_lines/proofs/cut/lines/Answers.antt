@@ -1,5 +1,4 @@
 -- No more lines than bytes.
-use Rattle.std.proofs.Common.{◌≤◌, length}
 use Rattle.pc_lines.proofs.PieceLemmas.{length-lines_of-le}
 use Rattle.pc_lines.proofs.cut.lines.Goals as goal
 
