@@ -1,9 +1,10 @@
 -- Texts and histories.
 use Rattle.std.proofs.Common.{◌≡◌, ℕ, suc, ◌+◌, List, [], ◌∷◌, ◌++◌, length, Option, Some, None, Result, Ok, Err, refl, sym, ap, subst, ◌∙◌, append_assoc, arith}
+use Rattle.std.specs.List.{AllByRecursion}
 use Rattle.std.proofs.lemmas.List.{append-nil}
 use Rattle.pc_lines.specs.Pieces.{lines_of}
 use Rattle.pc_model.specs.declared.event.Event.{Event}
-use Rattle.pc_print.specs.Line.{event_words, bare_line_of, line_of, text_of, AreEvents, IsEnded}
+use Rattle.pc_print.specs.Line.{event_words, bare_line_of, line_of, text_of, AreEvents, IsEnded, IsEventLine, IsFirstBad}
 use Rattle.pc_print.specs.declared.fault.JournalTextFault.{JournalTextFault}
 use Rattle.pc_print.specs.declared.fault.JournalTextFault.TheVariants as text
 use Rattle.pc_print.specs.Reading.{ReadsEvent, ReadsHistory, event_of, then_events, events_over, history_of}
@@ -19,6 +20,15 @@ line_of-is e = refl
 then_takes : (n : ℕ) (read : Option Event) (others : Event → Result (List Event) ℕ) (h : List Event) → then_events n read others ≡ Ok h → (e : Event) × (read ≡ Some e) × (others e ≡ Ok h)
 then_takes n None others h is = absurd cc
 then_takes n (Some e) others h is = (e, refl, is)
+
+err_is : {x y : ℕ} → ◌≡◌ {A = Result (List Event) ℕ} (Err x) (Err y) → x ≡ y
+err_is e = cc
+
+ok_not_err : {x : List Event} {y : ℕ} → ◌≡◌ {A = Result (List Event) ℕ} (Ok x) (Err y) → ⊥
+ok_not_err e = cc
+
+none_some : {A : Type 0} {x : A} → None ≡ Some x → ⊥
+none_some e = cc
 
 ok_is : {x y : List Event} → ◌≡◌ {A = Result (List Event) ℕ} (Ok x) (Ok y) → x ≡ y
 ok_is e = cc
@@ -104,3 +114,58 @@ history_of-is text = refl
 pub events_over-end : (before : List Event) (n : ℕ) (rest : List (List ℕ)) (whole : Result (List Event) ℕ) → rest ≡ [] → events_over before n rest ≡ whole → whole ≡ Ok before
 unfolding events_over
 events_over-end before n rest whole none left = sym left ∙ ap (events_over before n) none
+
+-- ---- the first line that is no event's
+
+-- the same, where the lines are numbered from k on
+record FirstBad (lines : List (List ℕ)) (k n : ℕ) : Type 0 where
+  front : List (List ℕ)
+  line : List ℕ
+  rest : List (List ℕ)
+  parts : lines ≡ front ++ line ∷ rest
+  number : n ≡ length front + k
+  good : AllByRecursion IsEventLine front
+  bad : IsEventLine line → ⊥
+
+no_event : (line : List ℕ) → event_of line ≡ None → IsEventLine line → ⊥
+no_event line none (e, fits, is) = none_some (sym none ∙ ap event_of (sym is) ∙ event_of-bare_line_of e fits)
+
+one_more : (line : List ℕ) (lines : List (List ℕ)) (k n : ℕ) → IsEventLine line → FirstBad lines (k + 1) n → FirstBad (line ∷ lines) k n
+one_more line lines k n good later = record {
+  front = line ∷ later.front;
+  line = later.line;
+  rest = later.rest;
+  parts = ap (λ (ls : List (List ℕ)). line ∷ ls) later.parts;
+  number = omega (arith, later.number);
+  good = (good, later.good);
+  bad = later.bad;
+}
+
+bad_here : (line : List ℕ) (lines : List (List ℕ)) (k n : ℕ) → event_of line ≡ None → k ≡ n → FirstBad (line ∷ lines) k n
+bad_here line lines k n none is = record {
+  front = [];
+  line = line;
+  rest = lines;
+  parts = refl;
+  number = omega arith;
+  good = tt;
+  bad = no_event line none;
+}
+
+at_line : (line : List ℕ) (lines : List (List ℕ)) (k n : ℕ) (read : Option Event) (others : Event → Result (List Event) ℕ) → event_of line ≡ read → ((e : Event) → others e ≡ Err n → FirstBad lines (k + 1) n) → then_events k read others ≡ Err n → FirstBad (line ∷ lines) k n
+at_line line lines k n None others is later e = bad_here line lines k n is (err_is e)
+at_line line lines k n (Some event) others is later e =
+    let taken = event_of-takes line event is in
+    one_more line lines k n (event, taken.1, taken.0) (later event e)
+
+over_bad : (before : List Event) (k : ℕ) (lines : List (List ℕ)) (n : ℕ) → events_over before k lines ≡ Err n → FirstBad lines k n
+unfolding events_over
+over_bad before k [] n e = absurd (ok_not_err e)
+over_bad before k (line ∷ lines) n e =
+    at_line line lines k n (event_of line) (λ event. events_over (event ∷ before) (k + 1) lines) refl (λ event. over_bad (event ∷ before) (k + 1) lines n) e
+
+pub history_of-bad : (text : List ℕ) (n : ℕ) → history_of text ≡ Err n → IsFirstBad (lines_of text) n
+unfolding history_of
+history_of-bad text n e =
+    let first = over_bad [] 1 (lines_of text) n e in
+    record { front = first.front; line = first.line; rest = first.rest; parts = first.parts; number = first.number; good = first.good; bad = first.bad }

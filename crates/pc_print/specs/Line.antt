@@ -1,5 +1,5 @@
 -- The text of a history: one line for each event.
-use Rattle.std.specs.Prelude.{ℕ, ◌≡◌, ◌<◌, ◌^◌, ◌++◌, ◌⊎◌, ⊤, List, [], ◌∷◌, codes, IsUtf8}
+use Rattle.std.specs.Prelude.{ℕ, ◌≡◌, ◌+◌, ◌<◌, ◌^◌, ◌++◌, ◌⊎◌, ⊤, List, [], ◌∷◌, length, codes, IsUtf8}
 use Rattle.std.specs.Fmt.{decimal}
 use Rattle.std.specs.List.{flat_map, AllByRecursion}
 use Rattle.pc_lines.specs.Escape.{IsBytes, escaped_of}
@@ -93,3 +93,17 @@ AreEvents events = AllByRecursion IsEvent events
 -- the text itself, or with a line feed behind its last line
 abbrev pub IsEnded : List ℕ → List ℕ → Type 0
 IsEnded text ended = (ended ≡ text) ⊎ (ended ≡ text ++ 10 ∷ [])
+
+-- a line, without its line feed, of some event
+abbrev pub IsEventLine : List ℕ → Type 0
+IsEventLine line = (event : Event) × IsEvent event × (bare_line_of event ≡ line)
+
+-- the line of this number, counted from 1, is the first that is no event's
+pub record IsFirstBad (lines : List (List ℕ)) (n : ℕ) : Type 0 where
+  pub front : List (List ℕ)
+  pub line : List ℕ
+  pub rest : List (List ℕ)
+  pub parts : lines ≡ front ++ line ∷ rest
+  pub number : n ≡ length front + 1
+  pub good : AllByRecursion IsEventLine front
+  pub bad : ¬ (IsEventLine line)

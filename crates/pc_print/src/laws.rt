@@ -1,9 +1,10 @@
 //! The laws of these texts, as functions that do nothing: each event has one line and each history
 //! one text, which is read as it.
 
-ghost use Rattle.std.specs.Prelude.{◌≡◌, ℕ, List, Some, Ok};
+ghost use Rattle.std.specs.Prelude.{◌≡◌, ℕ, List, Some, Ok, Err};
+ghost use Rattle.pc_lines.specs.Pieces.{lines_of};
 ghost use Rattle.pc_model.specs.declared.event.Event.{Event};
-ghost use Rattle.pc_print.specs.Line.{AreEvents, IsEnded, IsEvent, bare_line_of, text_of};
+ghost use Rattle.pc_print.specs.Line.{AreEvents, IsEnded, IsEvent, IsFirstBad, bare_line_of, text_of};
 ghost use Rattle.pc_print.specs.Reading.{event_of, history_of};
 
 /// The line of an event is read as the event, and no other line is.
@@ -20,4 +21,9 @@ pub fn one_text_for_each_history()
         → AreEvents history → history_of (text_of history) ≡ Ok history }
     ensures only { (text : List ℕ) (history : List Event)
         → history_of text ≡ Ok history → IsEnded text (text_of history) × AreEvents history }
+{}
+
+/// A text without a history has a first line that is no event's, and its number is named.
+pub fn one_fault_for_each_other_text()
+    ensures { (text : List ℕ) (n : ℕ) → history_of text ≡ Err n → IsFirstBad (lines_of text) n }
 {}

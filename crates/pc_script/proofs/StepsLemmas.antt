@@ -1,5 +1,5 @@
 -- Reading a rebalance script line by line, and the parts that its steps leave held.
-use Rattle.std.proofs.Common.{◌≡◌, ℕ, ◌+◌, ◌<◌, ◌≤◌, Bool, true, false, cond, List, [], ◌∷◌, ◌++◌, get_or, Option, Some, None, Result, Ok, Err, refl, sym, ap, subst, ◌∙◌, inl, inr, arith}
+use Rattle.std.proofs.Common.{◌≡◌, ℕ, ◌+◌, ◌<◌, ◌≤◌, Bool, true, false, cond, List, [], ◌∷◌, ◌++◌, get_or, Option, Some, None, Result, Ok, Err, refl, sym, ap, subst, append_assoc, append-nil, ◌∙◌, inl, inr, arith}
 use Rattle.std.specs.Prelude.{IfOk}
 use Rattle.std.proofs.lemmas.Bool.{cases_Bool}
 use Rattle.std.proofs.lemmas.List.Sums.{fold_push}
@@ -13,7 +13,7 @@ use Rattle.pc_script.specs.declared.step_word.StepWord.{StepWord}
 use Rattle.pc_script.specs.declared.step_word.StepWord.TheVariants as word
 use Rattle.pc_script.specs.Arguments.{◌>>=◌, part_of, no_word_of, one_word_of, is_skipped}
 use Rattle.pc_script.proofs.ArgumentLemmas.{bind_ok, ok_is, fault_ok_is, cond_err_ok, argument_of-ok}
-use Rattle.pc_script.specs.Steps.{StepsOf, step_word_of, count_of, count_and_part_of, part_step, crash_step, step_asked_of, step_behind_at, written_step_of, held_after, allowed_of, step_of, step_at, then_steps, steps_behind, or_bad_step, steps_of, IsAct, IsStep, AreSteps, Mirrors}
+use Rattle.pc_script.specs.Steps.{StepsOf, step_word_of, count_of, count_and_part_of, part_step, crash_step, step_asked_of, step_behind_at, written_step_of, held_after, allowed_of, step_of, step_at, then_steps, steps_behind, or_bad_step, steps_of, IsAct, IsStep, AreAllowed, AreSteps, Mirrors}
 
 -- ---- what a written step keeps to
 
@@ -140,3 +140,46 @@ AreSteps-steps_behind parts lines all e = lines_fit parts [] 1 lines all tt (or_
 pub AreSteps-steps_of : (text : List ℕ) (parts : ℕ) (all : List Step) → steps_of text parts ≡ Ok all → AreSteps all
 unfolding steps_of
 AreSteps-steps_of text parts all e = AreSteps-steps_behind parts (lines_of text) all (cond_err_ok _ _ _ all e)
+
+-- ---- each step is allowed behind those before
+
+-- these steps, behind those before
+record Behind (parts : ℕ) (before all : List Step) : Type 0 where
+  steps : List Step
+  whole : all ≡ before ++ steps
+  allowed : AreAllowed parts before steps
+
+step_allowed : (parts n : ℕ) (before : List Step) (line : List ℕ) (read : Result Step ScriptKind) (step : Step) → read ≡ step_of parts before line → step_at n read ≡ Ok step → allowed_of parts before step.act ≡ Ok tt
+step_allowed parts n before line (Ok first) step is e =
+    let written = bind_ok (written_step_of (words_of line)) (λ written. allowed_of parts before written.act >>= λ _. Ok written) first (sym is) in
+    let allowed = bind_ok (allowed_of parts before written.0.act) (λ _. Ok written.0) first written.2 in
+    subst (λ (s : Step). allowed_of parts before s.act ≡ Ok tt) (ok_is allowed.2 ∙ fault_ok_is e) allowed.1
+step_allowed parts n before line (Err kind) step is e = absurd cc
+
+then_behind : (parts : ℕ) (before : List Step) (read : Result Step ScriptFault) (others : Step → StepsOf) (all : List Step) → ((step : Step) → read ≡ Ok step → others step ≡ Ok all → Behind parts before all) → then_steps read others ≡ Ok all → Behind parts before all
+then_behind parts before (Ok step) others all fits e = fits step refl e
+then_behind parts before (Err fault) others all fits e = absurd cc
+
+one_behind : (parts : ℕ) (before : List Step) (step : Step) (all : List Step) → allowed_of parts before step.act ≡ Ok tt → Behind parts (before ++ step ∷ []) all → Behind parts before all
+one_behind parts before step all here rest = record {
+  steps = step ∷ rest.steps;
+  whole = rest.whole ∙ append_assoc before (step ∷ []) rest.steps;
+  allowed = (here, rest.allowed);
+}
+
+lines_behind : (parts : ℕ) (before : List Step) (n : ℕ) (lines : List (List ℕ)) (all : List Step) → steps_behind parts before n lines ≡ Ok all → Behind parts before all
+unfolding steps_behind
+lines_behind parts before n [] all e = record { steps = []; whole = sym (append-nil before ∙ fault_ok_is e); allowed = tt }
+lines_behind parts before n (line ∷ lines) all e =
+    elim (cases_Bool (is_skipped line)) [
+      | inl skipped ↦ lines_behind parts before (n + 1) lines all (rw skipped at e)
+      | inr other ↦
+          then_behind parts before (step_at n (step_of parts before line)) (λ step. steps_behind parts (before ++ step ∷ []) (n + 1) lines) all (λ step read others.
+          one_behind parts before step all (step_allowed parts n before line (step_of parts before line) step refl read) (lines_behind parts (before ++ step ∷ []) (n + 1) lines all others)) (rw other at e)
+    ]
+
+pub AreAllowed-steps_of : (text : List ℕ) (parts : ℕ) (all : List Step) → steps_of text parts ≡ Ok all → AreAllowed parts [] all
+unfolding steps_of
+AreAllowed-steps_of text parts all e =
+    let behind = lines_behind parts [] 1 (lines_of text) all (or_bad_step_ok (steps_behind parts [] 1 (lines_of text)) all (cond_err_ok _ _ _ all e)) in
+    subst (AreAllowed parts []) (sym behind.whole) behind.allowed

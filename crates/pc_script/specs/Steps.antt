@@ -147,6 +147,13 @@ IsStep step = (step.count ≤ 4_000_000) × IsAct step.act
 abbrev pub AreSteps : List Step → Type 0
 AreSteps steps = AllByRecursion IsStep steps
 
+-- behind the steps before, each of these is of a part that has a log, and that is held, or not, as
+-- its act wants
+abbrev pub AreAllowed : ℕ → List Step → List Step → Type 0
+AreAllowed parts before [] = ⊤
+AreAllowed parts before (step ∷ steps) =
+    (allowed_of parts before step.act ≡ Ok tt) × AreAllowed parts (before ++ step ∷ []) steps
+
 -- the flags say which parts are held after these steps
 abbrev pub Mirrors : List Bool → List Step → Type 0
 Mirrors flags steps = (p : ℕ) → p < 1024 → slice_index_or flags p false ≡ is_held steps p

@@ -13,7 +13,7 @@ mod step_word;
 mod steps;
 
 pub use fault::{ScriptFault, ScriptKind, ScriptReadFault};
-pub use laws::{every_act_is_playable, every_step_is_in_range};
+pub use laws::{every_act_is_playable, every_step_is_allowed, every_step_is_in_range};
 pub use play::{PlayAct, PlayLine};
 pub use play_script::{PlayScript, read_play};
 pub use step::{Act, Step};

@@ -1,4 +1,4 @@
-use Rattle.std.proofs.Common.{◌≤◌, length}
+-- No more lines than bytes.
 use Rattle.pc_lines.proofs.PieceLemmas.{length-lines_of-le}
 use Rattle.pc_lines.proofs.cut.lines.Goals as goal
 

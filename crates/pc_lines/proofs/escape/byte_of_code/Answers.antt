@@ -1,3 +1,4 @@
+-- Two digits behind a percent sign, or nothing.
 use Rattle.std.proofs.Common.{◌≡◌, ◌∷◌, None, drop, sym, ap, ◌∙◌}
 use Rattle.std.proofs.lemmas.List.{take_rest}
 use Rattle.pc_lines.specs.Escape.{onto, unescaped_of}

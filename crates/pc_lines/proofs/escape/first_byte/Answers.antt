@@ -1,3 +1,4 @@
+-- A byte that is no percent sign stands for itself, if it is plain.
 use Rattle.std.proofs.Common.{◌-◌, length, get_or, take, drop, ap, sym, ◌∙◌}
 use Rattle.std.specs.Prelude.{Some, None, if◌then◌else◌}
 use Rattle.pc_lines.specs.Escape.{onto, unescaped_of}

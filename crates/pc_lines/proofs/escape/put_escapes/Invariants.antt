@@ -1,3 +1,4 @@
+-- The escapes of the bytes so far are appended.
 use Rattle.std.proofs.Common.{◌≡◌, ◌++◌, take}
 use Rattle.pc_lines.specs.Escape.{escaped_of}
 use Rattle.pc_lines.proofs.escape.put_escapes.Given as goal

@@ -1,3 +1,4 @@
+-- Where nothing is left, the bytes are those of the word.
 use Rattle.std.proofs.Common.{sym}
 use Rattle.std.proofs.lemmas.Bool.{eqb-true}
 use Rattle.pc_lines.specs.Escape.{unescaped_of}

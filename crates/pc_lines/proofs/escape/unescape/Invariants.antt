@@ -1,3 +1,4 @@
+-- The bytes so far and those of the rest are those of the word.
 use Rattle.std.proofs.Common.{◌≡◌, ◌++◌, List, length}
 use Rattle.std.specs.Option.{option_map}
 use Rattle.pc_lines.specs.Escape.{unescaped_of}

@@ -1,3 +1,4 @@
+-- Both laws are lemmas on decimals.
 use Rattle.pc_lines.proofs.DecimalLemmas.{number_of-decimal, decimal-number_of}
 use Rattle.pc_lines.proofs.laws.one_decimal_for_each_number.Goals as goal
 

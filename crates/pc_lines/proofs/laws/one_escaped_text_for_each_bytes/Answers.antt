@@ -1,3 +1,4 @@
+-- Both laws are lemmas on escapes.
 use Rattle.pc_lines.proofs.EscapeLemmas.{unescaped_of-escaped_of, escaped_of-unescaped_of}
 use Rattle.pc_lines.proofs.laws.one_escaped_text_for_each_bytes.Goals as goal
 

@@ -1,3 +1,4 @@
+-- A byte that is no digit, or a number that is too large, ends it.
 use Rattle.std.proofs.Common.{◌≡◌, ◌+◌, ◌-◌, ◌*◌, get_or, sym, subst, arith}
 use Rattle.pc_lines.proofs.DecimalLemmas.{Front, AllDigits-other, Front-more, Front-large, Front-all}
 use Rattle.pc_lines.proofs.number.number.Goals as goal

@@ -1,3 +1,4 @@
+-- The number is that of the digits so far.
 use Rattle.pc_lines.proofs.DecimalLemmas.{Front}
 use Rattle.pc_lines.proofs.number.number.Given as goal
 

@@ -1,3 +1,4 @@
+-- Each digit is the last of the decimal that is left.
 use Rattle.std.proofs.Common.{arith}
 use Rattle.pc_lines.proofs.DecimalLemmas.{Written-none, Written-more, Written-last, Written-some}
 use Rattle.pc_lines.proofs.number.write_digits.Goals as goal

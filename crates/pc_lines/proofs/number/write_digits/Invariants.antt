@@ -1,3 +1,4 @@
+-- The decimal of what is left stands before the digits that are written.
 use Rattle.pc_lines.proofs.DecimalLemmas.{Written}
 use Rattle.pc_lines.proofs.number.write_digits.Given as goal
 

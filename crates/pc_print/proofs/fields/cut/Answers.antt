@@ -1,3 +1,4 @@
+-- The first word ends at the first space.
 use Rattle.std.proofs.Common.{◌+◌, sym}
 use Rattle.std.proofs.lemmas.List.{take_rest}
 use Rattle.pc_print.proofs.FieldLemmas.{slice_split-found, slice_split-whole}

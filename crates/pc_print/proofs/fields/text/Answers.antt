@@ -1,3 +1,4 @@
+-- Whether bytes are a text is decided by a test.
 use Rattle.std.proofs.Common.{sym, ap, ◌∙◌, inl, inr}
 use Rattle.std.specs.Prelude.{Some, None, if◌then◌else◌}
 use Rattle.std.specs.Str.{is_utf8}

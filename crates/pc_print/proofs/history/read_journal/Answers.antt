@@ -1,3 +1,4 @@
+-- One line more: an event, or the fault.
 use Rattle.std.proofs.Common.{◌+◌, length, ap, ◌∙◌, arith}
 use Rattle.std.proofs.lemmas.Result.{err_from_is_err_and}
 use Rattle.pc_print.proofs.TextLemmas.{events_over-read, events_over-bad, events_over-end, history_of-is}

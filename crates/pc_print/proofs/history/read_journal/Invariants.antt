@@ -1,3 +1,4 @@
+-- The events so far, and the lines that are left.
 use Rattle.std.proofs.Common.{◌≡◌, ◌+◌, ◌≤◌, [], length}
 use Rattle.pc_lines.specs.Pieces.{lines_of}
 use Rattle.pc_print.specs.Reading.{events_over}

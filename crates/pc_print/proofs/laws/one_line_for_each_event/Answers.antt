@@ -1,3 +1,4 @@
+-- Both laws are lemmas on lines.
 use Rattle.pc_print.proofs.ReadingLemmas.{event_of-takes, event_of-bare_line_of}
 use Rattle.pc_print.proofs.laws.one_line_for_each_event.Goals as goal
 

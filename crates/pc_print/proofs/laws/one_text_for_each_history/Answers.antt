@@ -1,3 +1,4 @@
+-- Both laws are lemmas on texts.
 use Rattle.pc_print.proofs.TextLemmas.{history_of-takes, history_of-text_of}
 use Rattle.pc_print.proofs.laws.one_text_for_each_history.Goals as goal
 

@@ -1,3 +1,4 @@
+-- The words so far are appended.
 use Rattle.std.proofs.Common.{◌≡◌, ◌++◌, ◌∷◌, take}
 use Rattle.std.specs.Prelude.{map}
 use Rattle.pc_print.specs.Line.{spaced}

@@ -1,3 +1,4 @@
+-- The law is a lemma on steps.
 use Rattle.pc_script.proofs.StepsLemmas.{AreSteps-steps_of}
 use Rattle.pc_script.proofs.laws.every_step_is_in_range.Goals as goal
 

@@ -1,3 +1,4 @@
+-- One line more: nothing, an act, or the fault.
 use Rattle.std.proofs.Common.{◌+◌, length, ap, sym, arith}
 use Rattle.std.proofs.lemmas.Result.{err_from_is_err_and}
 use Rattle.pc_script.specs.PlayScript.{or_bad_line}

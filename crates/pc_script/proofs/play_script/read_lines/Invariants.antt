@@ -1,3 +1,4 @@
+-- The lines so far, and those that are left.
 use Rattle.std.proofs.Common.{◌≡◌, ◌+◌, ◌≤◌, [], length}
 use Rattle.pc_lines.specs.Pieces.{lines_of}
 use Rattle.pc_script.specs.PlayScript.{play_lines}

@@ -1,3 +1,4 @@
+-- Every act that was read is playable.
 use Rattle.pc_lines.specs.Pieces.{lines_of}
 use Rattle.pc_script.proofs.PlayScriptLemmas.{ArePlayable-play_lines}
 use Rattle.pc_script.proofs.play_script.read_play.Goals as goal

@@ -1,3 +1,4 @@
+-- One line more: nothing, a step, or the fault.
 use Rattle.std.proofs.Common.{◌≡◌, ℕ, ◌+◌, List, length, Result, Ok, Err, ap, ◌∙◌, sym, arith}
 use Rattle.std.proofs.lemmas.Result.{err_from_is_err_and}
 use Rattle.pc_script.specs.declared.fault.ScriptFault.{ScriptFault}

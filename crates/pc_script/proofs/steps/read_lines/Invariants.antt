@@ -1,3 +1,4 @@
+-- The steps so far, with the flags that mirror them, and the lines that are left.
 use Rattle.std.proofs.Common.{◌≡◌, ◌+◌, ◌≤◌, [], length}
 use Rattle.pc_lines.specs.Pieces.{lines_of}
 use Rattle.pc_script.specs.Steps.{steps_behind, Mirrors}

@@ -1,3 +1,4 @@
+-- Every step that was read keeps to its range.
 use Rattle.pc_lines.specs.Pieces.{lines_of}
 use Rattle.pc_script.proofs.StepsLemmas.{AreSteps-steps_behind}
 use Rattle.pc_script.proofs.steps.read_steps.Goals as goal

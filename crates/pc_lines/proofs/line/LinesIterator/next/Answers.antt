@@ -1,3 +1,4 @@
+-- The line ends at the first line feed.
 use Rattle.std.proofs.Common.{sym, ◌∙◌, arith}
 use Rattle.std.proofs.lemmas.Bool.{eqb-false}
 use Rattle.pc_lines.proofs.PieceLemmas.{goes_on, lines_of-step}

@@ -1,3 +1,4 @@
+-- Leading spaces give no word, and the word ends at the next space.
 use Rattle.std.proofs.Common.{◌≡◌, [], Some, None, position, sym, ◌∙◌}
 use Rattle.std.proofs.lemmas.List.{take_rest}
 use Rattle.pc_lines.proofs.PieceLemmas.{is_other, goes_on, words_of-step, words_of-none}

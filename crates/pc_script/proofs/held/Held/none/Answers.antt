@@ -1,3 +1,4 @@
+-- All flags are down.
 use Rattle.std.proofs.lemmas.List.{get_or-replicate}
 use Rattle.pc_script.proofs.held.Held.none.Goals as goal
 
