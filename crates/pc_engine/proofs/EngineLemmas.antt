@@ -1,5 +1,5 @@
 -- What an engine's type keeps after each event.
-use Rattle.std.proofs.Common.{◌≡◌, ℕ, zero, suc, ◌+◌, ◌≤◌, ◌<◌, Bool, true, false, ◌==◌, cond, List, [], ◌∷◌, ◌++◌, map, take, drop, length, replicate, set, Option, Some, None, Result, Ok, Err, refl, ap, sym, subst, ◌∙◌, arith, inl, inr, eq-eqb, get_or}
+use Rattle.std.proofs.Common.{◌≡◌, ◌⊎◌, ℕ, zero, suc, ◌+◌, ◌≤◌, ◌<◌, Bool, true, false, ◌==◌, cond, List, [], ◌∷◌, ◌++◌, map, take, drop, length, replicate, set, Option, Some, None, Result, Ok, Err, refl, ap, sym, subst, ◌∙◌, arith, inl, inr, eq-eqb, get_or}
 use Rattle.std.specs.Prelude.{find, nat_lt, unwrap_or, slice_get, is_some}
 use Rattle.std.specs.List.{list_all, range_with_len}
 use Rattle.std.specs.Option.{option_or, option_flatten, option_map_or}
@@ -29,11 +29,11 @@ use Rattle.pc_model.proofs.KnownLaws.{assigned_commit-assign}
 use Rattle.std.proofs.lemmas.Slice.Eq.{bytes_eq-Decides}
 use Rattle.pc_engine.specs.declared.part.PartState.{PartState}
 use Rattle.pc_engine.specs.declared.fault.EngineFault.{EngineFault}
-use Rattle.pc_engine.specs.declared.fault.EngineFault.TheVariants.{Client}
+use Rattle.pc_engine.specs.declared.fault.EngineFault.TheVariants.{NoMemory, Client}
 use Rattle.pc_engine.specs.declared.client.ClientFault.TheVariants.{LinkFailed}
 use Rattle.pc_engine.specs.declared.engine.Committed.{Committed as Receipt}
 use Rattle.pc_world.specs.World.{KeepsAt, MayKeepAt}
-use Rattle.pc_engine.specs.Effect.{Does, is_full, refused_by, map_refusal, assign_step, assign_refusal, commit_refusal, commit_step}
+use Rattle.pc_engine.specs.Effect.{Does, refuses, link_failed, assign_after, is_full, refused_by, map_refusal, assign_step, assign_refusal, commit_refusal, commit_step}
 use Rattle.pc_engine.specs.Engine.{first_assigned, start_at, starts_by, given_by, PartKeeps, IsEngine}
 
 not-lt : (p n : ℕ) → n ≤ p → nat_lt p n ≡ false
@@ -248,6 +248,70 @@ pub refused-none : (u : Unit {0}) (o : Option EngineFault) → ◌≡◌ {A = Re
 refused-none u None e = refl
 refused-none u (Some fault) e = cc
 
+-- a refusal adds nothing, and neither does want of memory
+does-refuses : (f : EngineFault) (h h' : List Event) → h' ≡ h
+    → Does {A = Unit {0}} (Err f) (refuses f) h h'
+does-refuses NoMemory h h' same = same
+does-refuses f h h' same = (refl, same)
+
+not-ok : (f : EngineFault) → ◌≡◌ {A = Result (Unit {0}) EngineFault} (Err f) (Ok tt) → ⊥
+not-ok f is = cc
+
+fault-is : (f g : EngineFault) → ◌≡◌ {A = Result (Unit {0}) EngineFault} (Err f) (Err g) → f ≡ g
+fault-is f g is = cc
+
+does-refused : (o : Option EngineFault) (f : EngineFault) (given : Given) (h h' : List Event)
+    (p : ℕ) (failed : Bool) (stored : Commit) → ◌≡◌ {A = Result (Unit {0}) EngineFault}
+    (Err f) (refused_by o) → h' ≡ h
+    → Does (Err f) (assign_after given h p failed stored o) h h'
+does-refused None f given h h' p failed stored is same = absurd (not-ok f is)
+does-refused (Some g) f given h h' p failed stored is same =
+    subst (λ (x : EngineFault). Does {A = Unit {0}} (Err f) (refuses x) h h') (fault-is f g is)
+    (does-refuses f h h' same)
+
+-- an assignment that is refused before the link is asked
+pub assign-refused : (r : Result (Unit {0}) EngineFault) (f : EngineFault) (given : Given)
+    (h h' : List Event) (p : ℕ) (told : Bool) (kept : ℕ → Commit) → r ≡ Err f
+    → ◌≡◌ {A = Result (Unit {0}) EngineFault} (Err f) (refused_by (assign_refusal given h p))
+    → h' ≡ h
+    → (c : Commit) × (told ≡ true → c ≡ kept p) × Does r
+    (assign_step given h p (link_failed r) c) h h'
+assign-refused r f given h h' p told kept was is same = (
+  kept p,
+  λ told. refl,
+  subst (λ (x : Result (Unit {0}) EngineFault). Does x (assign_step given h p (link_failed x)
+  (kept p)) h h') (sym was)
+  (does-refused (assign_refusal given h p) f given h h' p (link_failed {A = Unit {0}} (Err f))
+  (kept p) is same),
+)
+
+-- an assignment for which there was no memory
+pub assign-unmade : (r : Result (Unit {0}) EngineFault) (given : Given)
+    (h h' : List Event) (p : ℕ) (told : Bool) (kept : ℕ → Commit) → r ≡ Err NoMemory → h' ≡ h
+    → (c : Commit) × (told ≡ true → c ≡ kept p) × Does r
+    (assign_step given h p (link_failed r) c) h h'
+assign-unmade r given h h' p told kept was same = (
+  kept p,
+  λ told. refl,
+  subst (λ (x : Result (Unit {0}) EngineFault). Does x (assign_step given h p (link_failed x)
+  (kept p)) h h') (sym was) same,
+)
+
+-- an assignment whose fetch failed
+pub assign-unfetched : (r : Result (Unit {0}) EngineFault) (f : EngineFault) (given : Given)
+    (h h' : List Event) (p : ℕ) (told : Bool) (kept : ℕ → Commit) → r ≡ Err f
+    → assign_refusal given h p ≡ None → (f ≡ NoMemory) ⊎ (f ≡ Client LinkFailed) → h' ≡ h
+    → (c : Commit) × (told ≡ true → c ≡ kept p) × Does r
+    (assign_step given h p (link_failed r) c) h h'
+assign-unfetched r f given h h' p told kept was none (inl is) same =
+    assign-unmade r given h h' p told kept (was ∙ ap (λ (x : EngineFault). Err x) is) same
+assign-unfetched r f given h h' p told kept was none (inr is) same = (
+  kept p,
+  λ told. refl,
+  subst (λ (x : Result (Unit {0}) EngineFault). Does x (assign_step given h p (link_failed x)
+  (kept p)) h h') (sym (was ∙ ap (λ (x : EngineFault). Err x) is)) (rw none (refl, same)),
+)
+
 -- an epoch begins or ends with an event
 epoch-step : (b : Bool) (n k : ℕ) → n ≤ k → cond b (n + 1) n ≤ suc k
 epoch-step true n k le = omega arith
@@ -262,15 +326,13 @@ pub assign-does : (setup : Setup) (n : ℕ) (h : List Event) (told : Bool) (kept
     (p epoch : ℕ) (stored : Commit) (h' : List Event)
     → assign_refusal (given_by setup n h told kept) h p ≡ None → map_refusal setup.bad_map stored
     ≡ None → epoch ≡ epoch_of h p
-    → h' ≡ Assign p (epoch + 1) stored.position stored.map ∷ h → stored ≡ kept p
+    → h' ≡ Assign p (epoch + 1) stored.position stored.map ∷ h
     → Does {A = Unit {0}} (Ok tt)
-    (assign_step (given_by setup n h told kept) h p false (kept p)) h h'
-assign-does setup n h told kept p epoch stored h' none reads is after gave =
-    let reads' : map_refusal setup.bad_map (kept p) ≡ None = rw (← gave) reads in
-    rw (none, reads') (
+    (assign_step (given_by setup n h told kept) h p false stored) h h'
+assign-does setup n h told kept p epoch stored h' none reads is after =
+    rw (none, reads) (
       refl,
-      after ∙ ap (λ (e : ℕ). Assign p (e + 1) stored.position stored.map ∷ h) is
-          ∙ ap (λ (c : Commit). Assign p (epoch_of h p + 1) c.position c.map ∷ h) gave,
+      after ∙ ap (λ (e : ℕ). Assign p (e + 1) stored.position stored.map ∷ h) is,
     )
 
 -- ---- the entries that may be stored
@@ -501,9 +563,6 @@ module _ (setup : Setup) (h : List Event) (told : Bool) (kept : ℕ → Commit) 
   after = pushed ∙ ap (λ (e : ℕ). Assign p (e + 1) stored.position stored.map ∷ held_before) epoch
       ∙ ap (λ (k : List Event). Assign p (epoch_of h p + 1) stored.position stored.map ∷ k) reserved
 
-  pub assigned-free : (c : Commit) × (h' ≡ Assign p (epoch_of h p + 1) c.position c.map ∷ h)
-  assigned-free = (stored, after)
-
   pub assigned-given : given_by setup
       (length (set parts p (record
       { epoch = s.epoch + 1; is_held = true; begin = stored.position }))) h' told' kept'
@@ -519,11 +578,15 @@ module _ (setup : Setup) (h : List Event) (told : Bool) (kept : ℕ → Commit) 
   assigned-keeps = rw (after, same_told, epoch, length-set)
       (IsEngine-assign setup h told kept parts keeps p stored kept' may gave keeps_all)
 
-  pub assigned-does : told ≡ true → map_refusal setup.bad_map stored ≡ None
-      → Does {A = Unit {0}} (Ok tt)
-      (assign_step (given_by setup (length parts) h told kept) h p false (kept p)) h h'
-  assigned-does is reads = assign-does setup (length parts) h told kept p
-      (epoch_of h p) stored h' none reads refl after (gave is)
+  pub assigned-does : map_refusal setup.bad_map stored ≡ None
+      → (c : Commit) × (told ≡ true → c ≡ kept p) × Does {A = Unit {0}} (Ok tt)
+      (assign_step (given_by setup (length parts) h told kept) h p false c) h h'
+  assigned-does reads = (
+    stored,
+    gave,
+    assign-does setup (length parts) h told kept p
+        (epoch_of h p) stored h' none reads refl after,
+  )
 
 -- ---- a commit that was stored or failed, as its calls tell it
 

@@ -13,6 +13,7 @@ use Rattle.pc_model.specs.Given.{Given, has_log}
 use Rattle.pc_model.specs.Jobs.{has_ended, is_draining, open_jobs}
 use Rattle.pc_model.specs.Epochs.{epoch_of, is_held}
 use Rattle.pc_model.specs.Known.{commit_of}
+use Rattle.pc_world.specs.World.{KeepsAll, KeepsAt, MayKeepAt}
 use Rattle.pc_engine.specs.declared.engine.Committed.{Committed as Receipt}
 use Rattle.pc_engine.specs.declared.client.ClientFault.TheVariants.{LinkFailed}
 use Rattle.pc_engine.specs.declared.fault.EngineFault.{EngineFault}
@@ -111,6 +112,14 @@ commit_with p c false = record {
 abbrev pub commit_after : Given → List Event → ℕ → Bool → Option EngineFault → Step Receipt
 commit_after given h p failed (Some fault) = refuses fault
 commit_after given h p failed None = commit_with p (commit_of given h p) failed
+
+-- what a link that tells it keeps after a commit of the part: the commit, or after a failed one that
+-- or what it kept, or else what it kept
+abbrev pub KeepsAfter : Result Receipt EngineFault → (ℕ → Commit) → (ℕ → Commit) → ℕ → Commit
+    → Type 0
+KeepsAfter (Ok receipt) before after p c = KeepsAt before after p c
+KeepsAfter (Err (Client LinkFailed)) before after p c = MayKeepAt before after p c
+KeepsAfter (Err fault) before after p c = KeepsAll before after
 
 abbrev pub commit_step : Given → List Event → ℕ → Bool → Step Receipt
 commit_step given h p failed = commit_after given h p failed (commit_refusal given h p)

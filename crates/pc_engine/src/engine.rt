@@ -57,16 +57,18 @@ impl<'a, K: Keeper> Model for Engine<'a, K> {
 }
 
 impl<'a, K: Keeper> Engine<'a, K> {
-    ghost use Rattle.std.specs.Prelude.{◌≡◌, ◌≤◌, ◌+◌, ◌∷◌, true, [], IfOk, IfErr, OnOk, OnErr, Err, Ok, Some, if◌then◌else◌};
+    ghost use Rattle.std.specs.Prelude.{◌≡◌, ◌≤◌, ℕ, true, [], IfOk, IfErr, OnOk, OnErr, Err, Ok, Some, if◌then◌else◌};
     ghost use Rattle.pc_model.specs.declared.commit.Commit.{Commit};
-    ghost use Rattle.pc_model.specs.declared.event.Event.TheVariants.{Assign};
-    ghost use Rattle.pc_model.specs.Epochs.{epoch_of};
     ghost use Rattle.pc_model.specs.Known.{commit_of};
     ghost use Rattle.pc_engine.specs.declared.client.ClientFault.TheVariants.{LinkFailed};
     ghost use Rattle.pc_engine.specs.declared.fault.EngineFault.{EngineFault};
     ghost use Rattle.pc_engine.specs.declared.fault.EngineFault.TheVariants.{Client};
-    ghost use Rattle.pc_world.specs.World.{HasRisen, KeepsAll, KeepsAt, MayKeepAt};
-    ghost use Rattle.pc_engine.specs.Effect.{Does, assign_refusal, assign_step, commit_refusal, commit_step, is_full, link_failed, refused_by};
+    ghost use Rattle.pc_world.specs.World.{HasRisen, KeepsAll};
+    ghost use Rattle.pc_model.specs.Given.{has_log};
+    ghost use Rattle.pc_model.specs.Lawful.{IsLegal};
+    ghost use Rattle.pc_model.specs.Stored.{may_store};
+    ghost use Rattle.pc_laws.specs.Lists.{In};
+    ghost use Rattle.pc_engine.specs.Effect.{Does, KeepsAfter, assign_refusal, assign_step, commit_refusal, commit_step, is_full, link_failed, refused_by};
     ghost use Rattle.pc_engine.specs.Engine.{given_by};
 
     /// An engine over so many parts, each with an empty log. The error is want of memory and gives
@@ -103,10 +105,14 @@ impl<'a, K: Keeper> Engine<'a, K> {
         &self.journal
     }
 
-    /// The journal and the link.
+    /// The journal and the link. The journal is legal, and a link that tells what it keeps has for
+    /// each part one of the commits that may be stored.
     pub fn into_parts(self) -> (Journal, K)
         ensures journal { result.0 ≡ self.entry.journal }
         ensures link { result.1 ≡ self.entry.link }
+        ensures legal { IsLegal self.entry.given self.entry.journal.events }
+        ensures stored { self.entry.given.is_told ≡ true → (p : ℕ) → has_log self.entry.given p ≡ true
+            → In (K.kept self.entry.link p) (may_store self.entry.given self.entry.journal.events p) }
     {
         let Engine {
             alloc: _,
@@ -124,20 +130,17 @@ impl<'a, K: Keeper> Engine<'a, K> {
     /// `Client` or `BadMap`, the first that applies. Over a link that does not tell what it keeps,
     /// the commit is what the link gave.
     pub fn assign(&mut self, part: u32) -> Result<(), EngineFault>
-        ensures effect { K.is_told self.old.link ≡ true → Does result
-            (assign_step self.old.given self.old.journal.events part (link_failed result)
-            (K.kept self.old.link part))
+        ensures effect { (stored : Commit) × (K.is_told self.old.link ≡ true → stored ≡ K.kept
+            self.old.link part) × Does result
+            (assign_step self.old.given self.old.journal.events part (link_failed result) stored)
             self.old.journal.events self.new.journal.events }
         ensures refused { (fault : EngineFault) →
             assign_refusal self.old.given self.old.journal.events part ≡ Some fault
             → (result ≡ Err fault) × (self.new.journal.events ≡ self.old.journal.events) }
-        ensures free { OnOk result ((stored : Commit) × (self.new.journal.events
-            ≡ Assign part (epoch_of self.old.journal.events part + 1) stored.position stored.map
-            ∷ self.old.journal.events)) }
         ensures stays { OnErr result (self.new.journal.events ≡ self.old.journal.events) }
         ensures cause { result ≡ Err (Client LinkFailed) → HasRisen (K.faults self.old.link)
             (K.faults self.new.link) }
-        ensures kept { K.is_told self.old.link ≡ true → KeepsAll (K.kept self.old.link)
+        ensures keeps { K.is_told self.old.link ≡ true → KeepsAll (K.kept self.old.link)
             (K.kept self.new.link) }
         ensures given { self.new.given ≡ self.old.given }
         ensures told { K.is_told self.new.link ≡ K.is_told self.old.link }
@@ -164,8 +167,7 @@ impl<'a, K: Keeper> Engine<'a, K> {
     }
 
     /// Commits the part: puts its commit on the link and adds Commit, or CommitFailed where the
-    /// link
-    /// failed.
+    /// link failed.
     ///
     /// Refuses with `Closed`, `UnknownPart`, `NotHeld`, `JournalFull`, `NoMemory` or `Client`, the
     /// first that applies.
@@ -178,11 +180,8 @@ impl<'a, K: Keeper> Engine<'a, K> {
             → (result ≡ Err fault) × (self.new.journal.events ≡ self.old.journal.events) }
         ensures cause { result ≡ Err (Client LinkFailed) → HasRisen (K.faults self.old.link)
             (K.faults self.new.link) }
-        ensures stored { K.is_told self.old.link ≡ true → OnOk result
-            (KeepsAt (K.kept self.old.link) (K.kept self.new.link) part
-            (commit_of self.old.given self.old.journal.events part).commit) }
-        ensures failed { K.is_told self.old.link ≡ true → result ≡ Err (Client LinkFailed) →
-            MayKeepAt (K.kept self.old.link) (K.kept self.new.link) part
+        ensures keeps { K.is_told self.old.link ≡ true → KeepsAfter result (K.kept self.old.link)
+            (K.kept self.new.link) part
             (commit_of self.old.given self.old.journal.events part).commit }
         ensures given { self.new.given ≡ self.old.given }
         ensures told { K.is_told self.new.link ≡ K.is_told self.old.link }

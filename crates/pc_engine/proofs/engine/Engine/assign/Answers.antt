@@ -1,12 +1,11 @@
 -- Where nothing refuses the assignment, the part's state and the journal take it in.
-use Rattle.std.proofs.Common.{◌≡◌, ◌+◌, ◌≤◌, ◌<◌, ◌∷◌, List, length, None, vec_len, ap, subst, true, false, Ok, ◌∙◌, arith, get_or}
+use Rattle.std.proofs.Common.{◌≡◌, ◌+◌, ◌≤◌, ◌<◌, length, None, vec_len, ap, refl, subst, true, false, Ok, Err, ◌∙◌, arith, get_or}
+use Rattle.std.proofs.lemmas.Result.{err_from_is_err_and}
 use Rattle.pc_model.specs.declared.commit.Commit.{Commit}
-use Rattle.pc_model.specs.declared.event.Event.{Event}
-use Rattle.pc_model.specs.declared.event.Event.TheVariants.{Assign}
-use Rattle.pc_model.specs.Epochs.{epoch_of}
+use Rattle.pc_engine.specs.declared.fault.EngineFault.{EngineFault}
 use Rattle.pc_engine.specs.Effect.{Does, assign_step, assign_refusal}
 use Rattle.pc_engine.specs.Engine.{given_by}
-use Rattle.pc_engine.proofs.EngineLemmas.{refused-none, assign-below, epoch-small, assigned-free, assigned-given, assigned-keeps, assigned-does}
+use Rattle.pc_engine.proofs.EngineLemmas.{refused-none, assign-below, epoch-small, assigned-given, assign-refused, assign-unmade, assign-unfetched, assigned-keeps, assigned-does}
 use Rattle.pc_engine.proofs.engine.Engine.assign.Goals as goal
 
 pub index_mut-requires : goal.index_mut-requires
@@ -63,26 +62,6 @@ invariant_of-self-2 g c =
     c.in_ok-stored.ensures.ok c.in_ok-stored.ensures.keeps c.in_ok-stored.ensures.told
     c.index.ensures c.in_ok-reserve.ensures.events c.push.ensures.events
 
-pub returns-clause-free : goal.returns-clause-free
-returns-clause-free g c =
-    let none : assign_refusal c.args.self.now.given c.args.self.now.journal.events c.args.part
-    ≡ None = refused-none _ _ c.in_ok-may_assign.ensures in
-    let inner : assign_refusal
-    (given_by c.self.inside.setup.now
-    (length c.self.inside.parts.items) c.self.inside.journal.events
-    (g.K.Keeper.is_told c.self.inside.link) (g.K.Keeper.kept c.self.inside.link))
-    c.self.inside.journal.events c.args.part ≡ None = rw (← c.self.view_is) at none in
-    subst (λ (k : List Event). (x : Commit) ×
-    (c.push.new.self.events ≡ Assign c.args.part (epoch_of k c.args.part + 1) x.position x.map
-    ∷ k)) (ap (λ v. v.journal.events) c.self.view_is)
-    (assigned-free c.self.inside.setup.now c.self.inside.journal.events
-    (g.K.Keeper.is_told c.self.inside.link) (g.K.Keeper.kept c.self.inside.link)
-    c.self.inside.parts.items c.self.invariant c.args.part inner c.in_ok-stored.stored
-    (g.K.Keeper.kept c.fetch.new.link) (g.K.Keeper.is_told c.fetch.new.link)
-    c.index.result.now c.index.result.now c.reserve.new.self.events c.push.new.self.events
-    c.in_ok-stored.ensures.ok c.in_ok-stored.ensures.keeps c.in_ok-stored.ensures.told
-    c.index.ensures c.in_ok-reserve.ensures.events c.push.ensures.events)
-
 pub returns-clause-given : goal.returns-clause-given
 returns-clause-given g c =
     let none : assign_refusal c.args.self.now.given c.args.self.now.journal.events c.args.part
@@ -110,15 +89,62 @@ returns-clause-effect g c =
     (length c.self.inside.parts.items) c.self.inside.journal.events
     (g.K.Keeper.is_told c.self.inside.link) (g.K.Keeper.kept c.self.inside.link))
     c.self.inside.journal.events c.args.part ≡ None = rw (← c.self.view_is) at none in
-    subst (λ v. g.K.Keeper.is_told v.link ≡ true → Does (Ok tt)
-    (assign_step v.given v.journal.events c.args.part false
-    (g.K.Keeper.kept v.link c.args.part)) v.journal.events c.push.new.self.events)
+    subst (λ v. (x : Commit) × (g.K.Keeper.is_told v.link ≡ true → x ≡ g.K.Keeper.kept v.link
+    c.args.part) × Does {A = Unit {0}} (Ok tt)
+    (assign_step v.given v.journal.events c.args.part false x) v.journal.events
+    c.push.new.self.events)
     c.self.view_is
-    (λ is. assigned-does c.self.inside.setup.now c.self.inside.journal.events
+    (assigned-does c.self.inside.setup.now c.self.inside.journal.events
     (g.K.Keeper.is_told c.self.inside.link) (g.K.Keeper.kept c.self.inside.link)
     c.self.inside.parts.items c.self.invariant c.args.part inner c.in_ok-stored.stored
     (g.K.Keeper.kept c.fetch.new.link) (g.K.Keeper.is_told c.fetch.new.link)
     c.index.result.now c.index.result.now c.reserve.new.self.events c.push.new.self.events
     c.in_ok-stored.ensures.ok c.in_ok-stored.ensures.keeps c.in_ok-stored.ensures.told
-    c.index.ensures c.in_ok-reserve.ensures.events c.push.ensures.events is
+    c.index.ensures c.in_ok-reserve.ensures.events c.push.ensures.events
     c.in_ok-check_map.ensures.ok)
+
+pub returns-in_err-may_assign-clause-effect : goal.returns-in_err-may_assign-clause-effect
+returns-in_err-may_assign-clause-effect g c =
+    let got = err_from_is_err_and c.from_residual.result c.from_residual.ensures.1 in
+    assign-refused c.from_residual.result c.in_err-may_assign.field-0.0 c.args.self.now.given c.args.self.now.journal.events
+    c.args.self.now.journal.events c.args.part (g.K.Keeper.is_told c.args.self.now.link)
+    (g.K.Keeper.kept c.args.self.now.link)
+    (got.1 ∙ ap (λ (x : EngineFault). Err x) got.2) c.in_err-may_assign.ensures refl
+
+pub returns-in_err-reserve-clause-effect : goal.returns-in_err-reserve-clause-effect
+returns-in_err-reserve-clause-effect g c =
+    let got = err_from_is_err_and c.from_residual-in_err-reserve.result
+    c.from_residual-in_err-reserve.ensures.1 in
+    assign-unmade c.from_residual-in_err-reserve.result c.args.self.now.given
+    c.args.self.now.journal.events c.reserve.new.self.events c.args.part
+    (g.K.Keeper.is_told c.args.self.now.link) (g.K.Keeper.kept c.args.self.now.link)
+    (got.1 ∙ ap (λ (x : EngineFault). Err x) got.2)
+    (c.in_err-reserve.ensures.events ∙ ap (λ v. v.journal.events) c.self.view_is)
+
+pub returns-in_err-stored-clause-effect : goal.returns-in_err-stored-clause-effect
+returns-in_err-stored-clause-effect g c =
+    let got = err_from_is_err_and c.from_residual-in_err-stored.result
+    c.from_residual-in_err-stored.ensures.1 in
+    assign-unfetched c.from_residual-in_err-stored.result c.in_err-stored.field-0.0 c.args.self.now.given
+    c.args.self.now.journal.events c.reserve.new.self.events c.args.part
+    (g.K.Keeper.is_told c.args.self.now.link) (g.K.Keeper.kept c.args.self.now.link)
+    (got.1 ∙ ap (λ (x : EngineFault). Err x) got.2)
+    (refused-none _ _ c.in_ok-may_assign.ensures) c.in_err-stored.ensures.fault
+    (c.in_ok-reserve.ensures.events ∙ ap (λ v. v.journal.events) c.self.view_is)
+
+pub index-requires : goal.index-requires
+index-requires g c =
+    let none : assign_refusal c.args.self.now.given c.args.self.now.journal.events c.args.part
+    ≡ None = refused-none _ _ c.in_ok-may_assign.ensures in
+    let inner : assign_refusal
+    (given_by c.self.inside.setup.now
+    (length c.self.inside.parts.items) c.self.inside.journal.events
+    (g.K.Keeper.is_told c.self.inside.link) (g.K.Keeper.kept c.self.inside.link))
+    c.self.inside.journal.events c.args.part ≡ None = rw (← c.self.view_is) at none in
+    let below : c.args.part < length c.self.inside.parts.items =
+    assign-below c.self.inside.setup.now c.self.inside.journal.events
+    (g.K.Keeper.is_told c.self.inside.link) (g.K.Keeper.kept c.self.inside.link)
+    c.self.inside.parts.items c.self.invariant c.args.part inner in
+    let count : vec_len c.self.inside.parts ≡ length c.self.inside.parts.items =
+    c.self.inside.parts.ok.0 in
+    rw count below

@@ -1,9 +1,8 @@
 -- Where nothing refuses the commit, the link and the journal take it in, or the journal alone.
-use Rattle.std.proofs.Common.{◌≡◌, length, None, ap, subst, true, false, Result, Ok, Err, ◌∙◌}
+use Rattle.std.proofs.Common.{◌≡◌, length, None, ap, subst, true, false, Ok, Err, ◌∙◌}
 use Rattle.pc_world.specs.World.{KeepsAt, MayKeepAt}
 use Rattle.pc_model.specs.Known.{commit_of}
 use Rattle.pc_engine.specs.declared.engine.Committed.{Committed}
-use Rattle.pc_engine.specs.declared.fault.EngineFault.{EngineFault}
 use Rattle.pc_engine.specs.declared.fault.EngineFault.TheVariants.{Client}
 use Rattle.pc_engine.specs.declared.client.ClientFault.TheVariants.{LinkFailed}
 use Rattle.pc_engine.specs.Effect.{Does, commit_step, commit_refusal}
@@ -88,8 +87,8 @@ returns-in-Ok-clause-given g c =
     c.in-Ok.ensures.ok c.push.ensures.events
     ∙ ap (λ v. v.given) c.self.view_is
 
-pub returns-in-Ok-clause-stored : goal.returns-in-Ok-clause-stored
-returns-in-Ok-clause-stored g c =
+pub returns-in-Ok-clause-keeps : goal.returns-in-Ok-clause-keeps
+returns-in-Ok-clause-keeps g c =
     let none : commit_refusal c.args.self.now.given c.args.self.now.journal.events c.args.part
     ≡ None = refused-none _ _ c.in_ok-may_commit.ensures in
     let inner : commit_refusal
@@ -151,8 +150,8 @@ returns-in-Err-Failed-clause-given g c =
     c.push-in-Err-Failed.ensures.events
     ∙ ap (λ v. v.given) c.self.view_is
 
-pub returns-in-Err-Failed-clause-failed : goal.returns-in-Err-Failed-clause-failed
-returns-in-Err-Failed-clause-failed g c =
+pub returns-in-Err-Failed-clause-keeps : goal.returns-in-Err-Failed-clause-keeps
+returns-in-Err-Failed-clause-keeps g c =
     let none : commit_refusal c.args.self.now.given c.args.self.now.journal.events c.args.part
     ≡ None = refused-none _ _ c.in_ok-may_commit.ensures in
     let inner : commit_refusal
@@ -160,11 +159,10 @@ returns-in-Err-Failed-clause-failed g c =
     (length c.self.inside.parts.items) c.self.inside.journal.events
     (g.K.Keeper.is_told c.self.inside.link) (g.K.Keeper.kept c.self.inside.link))
     c.self.inside.journal.events c.args.part ≡ None = rw (← c.self.view_is) at none in
-    subst (λ v. g.K.Keeper.is_told v.link ≡ true → ◌≡◌ {A = Result Committed EngineFault}
-    (Err (Client LinkFailed)) (Err (Client LinkFailed)) → MayKeepAt (g.K.Keeper.kept v.link)
+    subst (λ v. g.K.Keeper.is_told v.link ≡ true → MayKeepAt (g.K.Keeper.kept v.link)
     (g.K.Keeper.kept c.put.new.self) c.args.part
     (commit_of v.given v.journal.events c.args.part).commit) c.self.view_is
-    (λ is failed. commit-may c.self.inside.setup.now c.self.inside.journal.events
+    (λ is. commit-may c.self.inside.setup.now c.self.inside.journal.events
     (g.K.Keeper.is_told c.self.inside.link) (g.K.Keeper.kept c.self.inside.link)
     c.self.inside.parts.items c.self.invariant c.args.part inner (g.K.Keeper.kept c.put.new.self)
     (g.K.Keeper.is_told c.put.new.self)
