@@ -110,6 +110,7 @@ impl<'a, K: Keeper> Engine<'a, K> {
     pub fn into_parts(self) -> (Journal, K)
         ensures journal { result.0 ≡ self.entry.journal }
         ensures link { result.1 ≡ self.entry.link }
+        ensures told { self.entry.given.is_told ≡ K.is_told self.entry.link }
         ensures legal { IsLegal self.entry.given self.entry.journal.events }
         ensures stored { self.entry.given.is_told ≡ true → (p : ℕ) → has_log self.entry.given p ≡ true
             → In (K.kept self.entry.link p) (may_store self.entry.given self.entry.journal.events p) }

@@ -15,6 +15,7 @@ pub use fault::JournalTextFault;
 pub use history::read_journal;
 pub use laws::{one_fault_for_each_other_text, one_line_for_each_event, one_text_for_each_history};
 pub use put::put_event;
+pub use word::{Word, put_line};
 
 #[cfg(test)]
 mod tests;

@@ -48,6 +48,13 @@ impl PlayScript {
     {
         self.lines.get(i as usize)
     }
+
+    /// All lines that ask for something, in order.
+    pub fn as_slice(&self) -> &[PlayLine]
+        ensures { result.now ≡ self.now }
+    {
+        self.lines.as_slice()
+    }
 }
 
 /// The play script of a text.

@@ -1,0 +1,4 @@
+mod WrittenLemmas
+mod ReadingLemmas
+mod PlayLemmas
+mod PromiseLemmas

@@ -1,0 +1,309 @@
+-- What a line's call does to a play, and what lines do one after the other.
+use Rattle.std.proofs.Common.{◌≡◌, ◌≤◌, ◌<◌, ◌⊎◌, inl, inr, ℕ, zero, suc, ◌+◌, Bool, true, false, List, [], ◌∷◌, ◌++◌, length, take, get_or, Some, Result, Ok, Err, refl, ap, sym, subst, ◌∙◌, arith, add-one, length-append}
+use Rattle.std.specs.Prelude.{IfOk, IsTrue, is_none}
+use Rattle.std.specs.List.{AllByRecursion}
+use Rattle.std.proofs.Math.Bool.{Bool-set}
+use Rattle.std.proofs.lemmas.Bool.{cases_Bool}
+use Rattle.std.proofs.lemmas.List.{append-nil}
+use Rattle.std.proofs.Math.Seq.{take-suc}
+use Rattle.pc_laws.proofs.Lists.{true-not-false}
+use Rattle.pc_model.specs.declared.commit.Commit.{Commit as StoredCommit}
+use Rattle.pc_model.specs.declared.event.Event.{Event}
+use Rattle.pc_model.specs.declared.setup.Settings.{Settings}
+use Rattle.pc_model.specs.declared.setup.Setup.{Setup}
+use Rattle.pc_model.specs.Defaults.{default_settings, settings_of}
+use Rattle.pc_model.specs.Given.{Given, has_log, no_commit}
+use Rattle.pc_model.specs.Ranges.{settings_fault}
+use Rattle.pc_model.specs.Jobs.{has_ended}
+use Rattle.pc_model.specs.Lawful.{IsLegal}
+use Rattle.pc_model.specs.Stored.{may_store}
+use Rattle.pc_laws.specs.Lists.{In}
+use Rattle.pc_world.specs.World.{HasRisen}
+use Rattle.pc_script.specs.declared.play.PlayAct.{PlayAct}
+use Rattle.pc_script.specs.declared.play.PlayAct.TheVariants.{Assign, Commit}
+use Rattle.pc_script.specs.declared.play.PlayLine.{PlayLine}
+use Rattle.pc_engine.specs.declared.client.ClientFault.TheVariants.{LinkFailed}
+use Rattle.pc_engine.specs.declared.fault.EngineFault.{EngineFault}
+use Rattle.pc_engine.specs.declared.fault.EngineFault.TheVariants.{Client, Closed, UnknownPart, NoMemory}
+use Rattle.pc_engine.specs.declared.engine.Committed.{Committed}
+use Rattle.pc_engine.specs.Effect.{Step, Does, KeepsAfter, link_failed, assign_step, commit_step, commit_refusal}
+use Rattle.parcon.specs.declared.remark.Remark.{Remark}
+use Rattle.parcon.specs.Play.{Asked, Play, HasCause, PlaysTo, after_line, made, played, remarks_on, start, step_of}
+use Rattle.parcon.specs.Promise.{IsKept, default_setup, default_in_range, given_of}
+use Rattle.parcon.proofs.ReadingLemmas.{risen-later, risen-earlier}
+
+-- ---- one call
+
+false-not-true : false ≡ true → ⊥
+false-not-true is = true-not-false true refl (sym is)
+
+-- an answer that says that the link failed
+failed-is : {A : Type 0} (r : Result A EngineFault) → link_failed r ≡ true
+    → r ≡ Err (Client LinkFailed)
+failed-is (Err (Client LinkFailed)) is = refl
+failed-is r is = absurd (false-not-true is)
+
+failed-cause : {A : Type 0} (r : Result A EngineFault) (f f' : ℕ)
+    → (r ≡ Err (Client LinkFailed) → HasRisen f f') → (c : StoredCommit)
+    → HasCause f f' (record { failed = link_failed r; gave = c })
+failed-cause r f f' cause c is = cause (failed-is r is)
+
+-- an assignment, with the commit that the link gave
+pub assigned : (given : Given) (h h' : List Event) (p : ℕ) (r : Result (Unit {0}) EngineFault)
+    (f f' : ℕ) (P : StoredCommit → Type 0) → (r ≡ Err (Client LinkFailed) → HasRisen f f')
+    → (c : StoredCommit) × P c × Does r (assign_step given h p (link_failed r) c) h h'
+    → (asked : Asked) × HasCause f f' asked × Does r (step_of given h (Assign p) asked) h h'
+assigned given h h' p r f f' P cause (c, told, does) =
+    (record { failed = link_failed r; gave = c }, failed-cause r f f' cause c, does)
+
+-- a commit does the same without its receipt
+does-made : (r : Result Committed EngineFault) (step : Step Committed) (h h' : List Event)
+    → Does r step h h'
+    → Does (made r) (record { answer = made step.answer; events = step.events }) h h'
+does-made (Ok x) step h h' does = (ap made does.0, does.1)
+does-made (Err NoMemory) step h h' does = does
+does-made (Err f) step h h' does = (ap made does.0, does.1)
+
+pub committed : (given : Given) (h h' : List Event) (p : ℕ) (r : Result Committed EngineFault)
+    (f f' : ℕ) (c : StoredCommit) → (r ≡ Err (Client LinkFailed) → HasRisen f f')
+    → Does r (commit_step given h p (link_failed r)) h h'
+    → (asked : Asked) × HasCause f f' asked × Does (made r) (step_of given h (Commit p) asked) h h'
+committed given h h' p r f f' c cause does = (
+  record { failed = link_failed r; gave = c },
+  failed-cause r f f' cause c,
+  does-made r (commit_step given h p (link_failed r)) h h' does,
+)
+
+-- a line that is not built makes no call
+pub none-made : (given : Given) (h : List Event) (act : PlayAct) (f : ℕ)
+    → ((p : ℕ) → act ≡ Assign p → ⊥) → ((p : ℕ) → act ≡ Commit p → ⊥)
+    → (asked : Asked) × HasCause f f asked × Does (Ok tt) (step_of given h act asked) h h
+none-made given h (Assign p) f not_assign not_commit = absurd (not_assign p refl)
+none-made given h (Commit p) f not_assign not_commit = absurd (not_commit p refl)
+none-made given h act f not_assign not_commit = (
+  record { failed = false; gave = no_commit },
+  λ is. absurd (false-not-true is),
+  (refl, refl),
+)
+
+-- a part without a log is refused
+refused-unknown : (given : Given) (h : List Event) (p : ℕ) → has_log given p ≡ false
+    → (commit_refusal given h p ≡ Some Closed) ⊎ (commit_refusal given h p ≡ Some UnknownPart)
+refused-unknown given h p none = elim (cases_Bool (has_ended h)) [
+  | inl ended ↦ inl (rw ended refl)
+  | inr runs ↦ inr (rw (runs, none) refl)
+]
+
+not-refused : (r : Result Committed EngineFault) (given : Given) (h : List Event) (p : ℕ)
+    → ((fault : EngineFault) → commit_refusal given h p ≡ Some fault → r ≡ Err fault)
+    → (r ≡ Err Closed → ⊥) → (r ≡ Err UnknownPart → ⊥) → has_log given p ≡ false → ⊥
+not-refused r given h p refused not_closed not_unknown none =
+    elim (refused-unknown given h p none) [
+      | inl is ↦ not_closed (refused Closed is)
+      | inr is ↦ not_unknown (refused UnknownPart is)
+    ]
+
+-- for a part without a log the link keeps what it kept
+pub kept-others : (r : Result Committed EngineFault) (kept kept' : ℕ → StoredCommit) (p : ℕ)
+    (c : StoredCommit) (given : Given) (h : List Event)
+    → ((fault : EngineFault) → commit_refusal given h p ≡ Some fault → r ≡ Err fault)
+    → KeepsAfter r kept kept' p c
+    → (q : ℕ) → has_log given q ≡ false → kept' q ≡ kept q
+kept-others (Ok x) kept kept' p c given h refused keeps q none =
+    keeps.others q (λ (e : q ≡ p). not-refused (Ok x) given h p refused (λ is. cc) (λ is. cc)
+    (subst (λ (u : ℕ). has_log given u ≡ false) e none))
+kept-others (Err (Client LinkFailed)) kept kept' p c given h refused (inl all) q none = all q
+kept-others (Err (Client LinkFailed)) kept kept' p c given h refused (inr at) q none =
+    at.others q (λ (e : q ≡ p). not-refused (Err (Client LinkFailed)) given h p refused
+    (λ is. cc) (λ is. cc) (subst (λ (u : ℕ). has_log given u ≡ false) e none))
+kept-others (Err f) kept kept' p c given h refused keeps q none = keeps q
+
+-- ---- one line
+
+does-fault : (fault : EngineFault) (step : Step (Unit {0})) (h h' : List Event)
+    → (fault ≡ NoMemory → ⊥) → Does (Err fault) step h h'
+    → (Err fault ≡ step.answer) × (h' ≡ step.events ++ h)
+does-fault NoMemory step h h' other does = absurd (other refl)
+does-fault fault step h h' other does = does
+
+-- a call that was answered leaves no remark
+pub line-done : (given : Given) (line : PlayLine) (h h' : List Event) (remarks : List Remark)
+    (f f' : ℕ) → (asked : Asked) × HasCause f f' asked
+    × Does (Ok tt) (step_of given h line.act asked) h h'
+    → (asked : Asked) × HasCause f f' asked
+    × (after_line given (record { history = h; remarks = remarks }) line asked
+    ≡ record { history = h'; remarks = remarks })
+line-done given line h h' remarks f f' (asked, cause, does) = (
+  asked,
+  cause,
+  ap (λ (r : Result (Unit {0}) EngineFault). record {
+    history = (step_of given h line.act asked).events ++ h;
+    remarks = remarks ++ remarks_on line.line r;
+  }) (sym does.0)
+      ∙ ap (λ (k : List Event). record { history = k; remarks = remarks ++ [] }) (sym does.1)
+      ∙ ap (λ (l : List Remark). record { history = h'; remarks = l }) (append-nil remarks),
+)
+
+-- one that was refused leaves one
+pub line-refused : (given : Given) (line : PlayLine) (h h' : List Event)
+    (remarks remarks' : List Remark) (fault : EngineFault) (f f' : ℕ) → (fault ≡ NoMemory → ⊥)
+    → remarks' ≡ remarks ++ record { line = line.line; fault = fault } ∷ []
+    → (asked : Asked) × HasCause f f' asked
+    × Does (Err fault) (step_of given h line.act asked) h h'
+    → (asked : Asked) × HasCause f f' asked
+    × (after_line given (record { history = h; remarks = remarks }) line asked
+    ≡ record { history = h'; remarks = remarks' })
+line-refused given line h h' remarks remarks' fault f f' other pushed (asked, cause, does) =
+    let is = does-fault fault (step_of given h line.act asked) h h' other does in (
+      asked,
+      cause,
+      ap (λ (r : Result (Unit {0}) EngineFault). record {
+        history = (step_of given h line.act asked).events ++ h;
+        remarks = remarks ++ remarks_on line.line r;
+      }) (sym is.0)
+          ∙ ap (λ (k : List Event). record {
+            history = k;
+            remarks = remarks ++ record { line = line.line; fault = fault } ∷ [];
+          }) (sym is.1)
+          ∙ ap (λ (l : List Remark). record { history = h'; remarks = l }) (sym pushed),
+    )
+
+-- ---- one line after the other
+
+cause-later : (a b c : ℕ) (asked : Asked) → a ≤ b → b ≤ c → HasCause a b asked → HasCause a c asked
+cause-later a b c asked le more cause is = risen-later a b c le more (cause is)
+
+causes-later : (a b c : ℕ) (asked : List Asked) → a ≤ b → b ≤ c
+    → AllByRecursion (HasCause a b) asked → AllByRecursion (HasCause a c) asked
+causes-later a b c [] le more all = tt
+causes-later a b c (x ∷ asked) le more all =
+    (cause-later a b c x le more all.0, causes-later a b c asked le more all.1)
+
+all-more : {X : Type 0} (P : X → Type 0) (xs : List X) (x : X) → AllByRecursion P xs → P x
+    → AllByRecursion P (xs ++ x ∷ [])
+all-more P [] x all is = (is, tt)
+all-more P (y ∷ xs) x all is = (all.0, all-more P xs x all.1 is)
+
+played-more : (given : Given) (s : Play) (lines : List PlayLine) (asked : List Asked)
+    (line : PlayLine) (a : Asked) → length asked ≡ length lines
+    → played given s (lines ++ line ∷ []) (asked ++ a ∷ [])
+    ≡ after_line given (played given s lines asked) line a
+unfolding played
+played-more given s [] [] line a len = refl
+played-more given s [] (b ∷ asked) line a len = absurd (omega arith)
+played-more given s (l ∷ lines) [] line a len = absurd (omega arith)
+played-more given s (l ∷ lines) (b ∷ asked) line a len =
+    played-more given (after_line given s l b) lines asked line a (omega arith)
+
+-- no line leads nowhere
+pub plays-none : (given : Given) (s : Play) (f : ℕ) → PlaysTo given s [] f f s
+unfolding played
+plays-none given s f = record { asked = []; each = refl; causes = tt; end = refl }
+
+-- one line more
+plays-more : (given : Given) (s t u : Play) (lines : List PlayLine) (line : PlayLine)
+    (f0 f1 f2 : ℕ) → f0 ≤ f1 → f1 ≤ f2 → PlaysTo given s lines f0 f1 t
+    → (asked : Asked) × HasCause f1 f2 asked × (after_line given t line asked ≡ u)
+    → PlaysTo given s (lines ++ line ∷ []) f0 f2 u
+plays-more given s t u lines line f0 f1 f2 le more plays (a, cause, is) = record {
+  asked = plays.asked ++ a ∷ [];
+  each = length-append plays.asked (a ∷ []) ∙ ap (λ (n : ℕ). n + 1) plays.each
+      ∙ sym (length-append lines (line ∷ []));
+  causes = all-more (HasCause f0 f2) plays.asked a
+      (causes-later f0 f1 f2 plays.asked le more plays.causes)
+      (λ failed. risen-earlier f0 f1 f2 le (cause failed));
+  end = played-more given s lines plays.asked line a plays.each
+      ∙ ap (λ (p : Play). after_line given p line a) plays.end ∙ is;
+}
+
+pub plays-next : (given : Given) (s t u : Play) (lines : List PlayLine) (i : ℕ) (line d : PlayLine)
+    (f0 f1 f2 : ℕ) → f0 ≤ f1 → f1 ≤ f2 → i < length lines → line ≡ get_or lines i d
+    → PlaysTo given s (take i lines) f0 f1 t
+    → (asked : Asked) × HasCause f1 f2 asked × (after_line given t line asked ≡ u)
+    → PlaysTo given s (take (i + 1) lines) f0 f2 u
+plays-next given s t u lines i line d f0 f1 f2 le more below is plays step =
+    subst (λ (l : List PlayLine). PlaysTo given s l f0 f2 u)
+    (ap (λ (x : PlayLine). take i lines ++ x ∷ []) is ∙ sym (take-suc lines i d below)
+    ∙ ap (λ (n : ℕ). take n lines) (sym (add-one i)))
+    (plays-more given s t u (take i lines) line f0 f1 f2 le more plays step)
+
+-- ---- the whole play
+
+-- the link kept for parts without a log what it kept before the lines, too
+pub kept-from : (given given' : Given) (told told' : Bool) (kept0 kept kept' : ℕ → StoredCommit)
+    (h : List Event) → given' ≡ given → given'.is_told ≡ told' → told' ≡ told
+    → (told ≡ true → (q : ℕ) → has_log given q ≡ false → kept q ≡ kept0 q)
+    → IsKept given' kept kept' h → IsKept given kept0 kept' h
+kept-from given given' told told' kept0 kept kept' h same told_is same_told keeps is = record {
+  legal = subst (λ (x : Given). IsLegal x h) same is.legal;
+  stored = λ t p log. subst (λ (x : Given). In (kept' p) (may_store x h p)) same
+      (is.stored (ap (λ (x : Given). x.is_told) same ∙ t) p
+      (ap (λ (x : Given). has_log x p) same ∙ log));
+  others = λ t q none.
+      is.others (ap (λ (x : Given). x.is_told) same ∙ t) q
+      (ap (λ (x : Given). has_log x q) same ∙ none)
+      ∙ keeps (sym same_told ∙ sym told_is ∙ ap (λ (x : Given). x.is_told) same ∙ t) q none;
+}
+
+pub plays-from-start : (given : Given) (h : List Event) (remarks : List Remark)
+    (lines : List PlayLine) (f f' : ℕ) (t : Play) → h ≡ [] → remarks ≡ []
+    → PlaysTo given (record { history = h; remarks = remarks }) lines f f' t
+    → PlaysTo given start lines f f' t
+plays-from-start given h remarks lines f f' t no_events no_remarks plays =
+    subst (λ (s : Play). PlaysTo given s lines f f' t)
+    (ap (λ (k : List Event). record { history = k; remarks = remarks }) no_events
+    ∙ ap (λ (l : List Remark). record { history = []; remarks = l }) no_remarks) plays
+
+-- ---- the setup
+
+setup_with : (v : Settings) → IsTrue (is_none (settings_fault v)) → Setup
+setup_with v in_range = record {
+  order = v.order;
+  rules = v.rules;
+  map_limit = v.map_limit;
+  press_percent = v.press_percent;
+  delays = v.delays;
+  give_up = v.give_up;
+  buffer = v.buffer;
+  poll_max = v.poll_max;
+  commit_every = v.commit_every;
+  bad_map = v.bad_map;
+  starts = v.starts;
+  in_range = in_range;
+}
+
+same-setup : (v w : Settings) → v ≡ w → (a : IsTrue (is_none (settings_fault v)))
+    → (b : IsTrue (is_none (settings_fault w))) → setup_with v a ≡ setup_with w b
+unfolding setup_with
+same-setup v w same a =
+    subst (λ (x : Settings). (b : IsTrue (is_none (settings_fault x)))
+    → setup_with v a ≡ setup_with x b) same
+    (λ b. ap (setup_with v) (Bool-set (is_none (settings_fault v)) true a b))
+
+-- a setup has no more than its values
+pub default-is : (s : Setup) → settings_of s ≡ default_settings → s ≡ default_setup
+unfolding setup_with
+default-is s values = same-setup (settings_of s) default_settings values s.in_range default_in_range
+
+-- ---- before any line
+
+stored-at-start : (told : Bool) (kept : ℕ → StoredCommit) → told ≡ true → (p : ℕ)
+    → has_log (given_of told kept) p ≡ true → In (kept p) (may_store (given_of told kept) [] p)
+stored-at-start true kept is zero log = inl refl
+stored-at-start true kept is (suc p) log = absurd (false-not-true log)
+stored-at-start false kept is p log = absurd (false-not-true is)
+
+pub kept-at-start : (told : Bool) (kept : ℕ → StoredCommit) → IsKept (given_of told kept) kept kept []
+kept-at-start told kept = record {
+  legal = refl;
+  stored = λ t p log. stored-at-start told kept t p log;
+  others = λ t p none. refl;
+}
+
+-- ---- what an answer says
+
+pub if_ok : {T E : Type 0} (r : Result T E) (x : T) (P : T → Type 0) → r ≡ Ok x → P x → IfOk r P
+if_ok {T} {E} r x P is p = subst (λ (y : Result T E). IfOk y P) (sym is) p
+
+pub if_err : {T E : Type 0} (r : Result T E) (e : E) (P : T → Type 0) → r ≡ Err e → IfOk r P
+if_err {T} {E} r e P is = subst (λ (y : Result T E). IfOk y P) (sym is) tt

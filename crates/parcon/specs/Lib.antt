@@ -1,0 +1,6 @@
+pub mod Command
+pub mod Reading
+pub mod Play
+pub mod Ending
+pub mod Written
+pub mod Promise

@@ -1,0 +1,64 @@
+//! Fault lines: the last line of the output of a status that is a fault of the input.
+
+ghost use Rattle.std.specs.Prelude.{◌≡◌, ◌++◌, OnOk, OnErr};
+ghost use Rattle.parcon.specs.Ending.{fault_line, limit_name};
+ghost use Rattle.parcon.specs.declared.status.Status.TheVariants.{BadScript};
+
+use crate::status::{LimitKind, Status};
+use pc_print::Word::{Marked, Name, Number};
+use pc_print::put_line;
+use pc_script::ScriptKind;
+use std::alloc::{AllocError, Global};
+
+/// Appends the fault line of a status, with its line feed, and nothing where it has none. Where
+/// memory is wanting `out` is as before.
+#[tactic(auto, unfolding(crate::specs::Ending::fault_line))]
+pub(crate) fn put_fault(alloc: Global, out: &mut Vec<u8>, status: &Status) -> Result<(), AllocError>
+    ensures ok { OnOk result (out.new.items ≡ out.old.items ++ fault_line status.now) }
+    ensures err { OnErr result (out.new.items ≡ out.old.items) }
+{
+    match status {
+        Status::Whole | Status::SinkFault | Status::NoMemory => Ok(()),
+        Status::Usage => put_line(out, b"fault", &[Name(b"usage")]),
+        Status::ReadFault { name } => put_line(
+            out,
+            b"fault",
+            &[Name(b"read"), Marked(name.as_str().as_bytes())],
+        ),
+        Status::BadScript { line, kind } => put_bad_line(alloc, out, *line, *kind),
+        Status::Limit { which, number } => put_line(
+            out,
+            b"fault",
+            &[Name(b"limit"), Name(limit_name(*which)), Number(*number)],
+        ),
+        Status::NotBuilt { line } => {
+            put_line(out, b"fault", &[Name(b"not-built"), Number(*line)])
+        }
+    }
+}
+
+/// The word for what has a limit.
+fn limit_name(which: LimitKind) -> &'static [u8]
+    ensures { result.now ≡ limit_name which }
+{
+    match which {
+        LimitKind::FileBytes => b"file-bytes",
+        LimitKind::ScriptLines => b"script-lines",
+    }
+}
+
+/// Appends the fault line of a bad line of a script.
+#[tactic(auto, unfolding(crate::specs::Ending::fault_line))]
+fn put_bad_line(
+    alloc: Global,
+    out: &mut Vec<u8>,
+    line: u64,
+    kind: ScriptKind,
+) -> Result<(), AllocError>
+    ensures ok { OnOk result (out.new.items ≡ out.old.items ++ fault_line (BadScript line kind)) }
+    ensures err { OnErr result (out.new.items ≡ out.old.items) }
+{
+    let text = format!(in alloc; "{kind}")?;
+    let words = [Name(b"script"), Number(line), Name(text.as_bytes())];
+    put_line(out, b"fault", &words)
+}

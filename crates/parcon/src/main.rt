@@ -1,0 +1,51 @@
+//! parcon: plays and runs logs by a parallel consumer, and commits what is finished.
+//!
+//! `offline` is the whole program but for the outside; its clauses are the promise.
+#![tactic(auto)]
+
+mod command;
+mod fault_line;
+mod offline;
+mod output;
+mod play;
+mod reading;
+mod remark;
+mod status;
+
+use offline::offline;
+use pc_world::{DiskFiles, MemoryKeeper, StdSink};
+use status::NO_MEMORY;
+use std::alloc::AllocError;
+use std::env;
+use std::io::ErrorKind;
+use std::process::ExitCode;
+
+#[cfg(test)]
+mod tests;
+
+fn main(rt: HostRuntime) -> ExitCode {
+    match run(&rt) {
+        Ok(code) => ExitCode::from(code),
+        Err(_) => ExitCode::from(NO_MEMORY),
+    }
+}
+
+/// Runs the program on the words behind its name, over the disk and the standard output, with a
+/// link in memory, and answers the number of its status.
+fn run(rt: &HostRuntime) -> Result<u8, AllocError> {
+    let words = words(rt)?;
+    let link = MemoryKeeper::new(rt.alloc(), &[], &[])?;
+    let mut files = DiskFiles::new(rt);
+    let mut out = StdSink::new(rt);
+    let ended = offline(rt.alloc(), &words, &mut files, link, &mut out);
+    Ok(ended.status.number())
+}
+
+/// The words behind the program's name, or none, which are no command, where one is no UTF-8.
+fn words(rt: &HostRuntime) -> Result<Vec<String>, AllocError> {
+    match env::args(rt) {
+        Ok(words) => words.skip(1).collect(rt.alloc()),
+        Err(e) if e.kind() == ErrorKind::OutOfMemory => Err(AllocError),
+        Err(_) => Ok(Vec::new(rt.alloc())),
+    }
+}

@@ -1,0 +1,115 @@
+//! Remarks: what a play says of the lines whose calls were refused.
+
+ghost use Rattle.std.specs.Prelude.{◌≡◌, ◌++◌, ◌∷◌, OnOk, OnErr, codes};
+ghost use Rattle.parcon.specs.Ending.{client_words, map_words, remark_line, words_at};
+
+use pc_engine::{ClientFault, EngineFault};
+use pc_model::MapFault;
+use pc_print::Word::{Label, Name, Number, Signed};
+use pc_print::put_line;
+use std::alloc::AllocError;
+
+/// The refusal of a script's line.
+#[derive(Clone, Copy, Debug, PartialEq, Eq)]
+pub(crate) struct Remark {
+    /// The line's number in the script, from 1 on.
+    pub(crate) line: u64,
+    pub(crate) fault: EngineFault,
+}
+
+/// Appends the line of a remark, with its line feed. Where memory is wanting `out` is as before.
+#[tactic(auto, unfolding(crate::specs::Ending::remark_line))]
+pub(crate) fn put_remark(out: &mut Vec<u8>, remark: &Remark) -> Result<(), AllocError>
+    ensures ok { OnOk result (out.new.items ≡ out.old.items ++ remark_line remark.now) }
+    ensures err { OnErr result (out.new.items ≡ out.old.items) }
+{
+    let n = remark.line;
+    match remark.fault {
+        EngineFault::Closed => put_line(out, b"line", &[Label(n), Name(b"closed")]),
+        EngineFault::UnknownPart => put_line(out, b"line", &[Label(n), Name(b"unknown-part")]),
+        EngineFault::AlreadyHeld => put_line(out, b"line", &[Label(n), Name(b"already-held")]),
+        EngineFault::NotHeld => put_line(out, b"line", &[Label(n), Name(b"not-held")]),
+        EngineFault::Draining => put_line(out, b"line", &[Label(n), Name(b"draining")]),
+        EngineFault::Pressed { high } => {
+            put_line(out, b"line", &[Label(n), Name(b"pressed"), Number(high)])
+        }
+        EngineFault::JournalFull => put_line(out, b"line", &[Label(n), Name(b"journal-full")]),
+        EngineFault::NotDone { part, offset } => put_line(
+            out,
+            b"line",
+            &[
+                Label(n),
+                Name(b"not-done"),
+                Number(u64::from(part)),
+                Number(offset),
+            ],
+        ),
+        EngineFault::Uncommitted {
+            part,
+            stored,
+            position,
+        } => put_line(
+            out,
+            b"line",
+            &[
+                Label(n),
+                Name(b"uncommitted"),
+                Number(u64::from(part)),
+                Number(stored),
+                Number(position),
+            ],
+        ),
+        EngineFault::Client(fault) => put_client(out, n, fault),
+        EngineFault::BadMap(fault) => put_map(out, n, fault),
+        EngineFault::NoMemory => put_line(out, b"line", &[Label(n), Name(b"no-memory")]),
+    }
+}
+
+/// Appends the line of a remark that the link's client failed.
+fn put_client(out: &mut Vec<u8>, n: u64, fault: ClientFault) -> Result<(), AllocError>
+    ensures ok { OnOk result (out.new.items ≡ out.old.items ++ words_at n (client_words fault)) }
+    ensures err { OnErr result (out.new.items ≡ out.old.items) }
+{
+    match fault {
+        ClientFault::LinkFailed => put_line(out, b"line", &[Label(n), Name(b"link-failed")]),
+        ClientFault::Refused(code) => put_line(
+            out,
+            b"line",
+            &[Label(n), Name(b"refused"), Signed(i64::from(code))],
+        ),
+        ClientFault::BadReply(_) => put_line(out, b"line", &[Label(n), Name(b"bad-reply")]),
+        ClientFault::OtherReply { .. } => put_line(out, b"line", &[Label(n), Name(b"other-reply")]),
+        ClientFault::NoMemory => put_line(out, b"line", &[Label(n), Name(b"no-memory")]),
+    }
+}
+
+/// Appends the line of a remark that a stored map does not read.
+fn put_map(out: &mut Vec<u8>, n: u64, fault: MapFault) -> Result<(), AllocError>
+    ensures ok { OnOk result (out.new.items
+        ≡ out.old.items ++ words_at n (codes "bad-map" ∷ map_words fault)) }
+    ensures err { OnErr result (out.new.items ≡ out.old.items) }
+{
+    let (kind, letter): (&[u8], Option<u8>) = match fault {
+        MapFault::NotBase64 => (b"not-base64", None),
+        MapFault::Compressed(letter) => (b"compressed", Some(letter)),
+        MapFault::UnknownLetter(letter) => (b"unknown-letter", Some(letter)),
+        MapFault::ShortNumber => (b"short-number", None),
+        MapFault::NegativeNumber => (b"negative-number", None),
+        MapFault::TooManyBytes => (b"too-many-bytes", None),
+        MapFault::PastLastOffset => (b"past-last-offset", None),
+        MapFault::NoMemory => (b"no-memory", None),
+    };
+    match letter {
+        Some(letter) => put_line(
+            out,
+            b"line",
+            &[
+                Label(n),
+                Name(b"bad-map"),
+                Name(kind),
+                Number(u64::from(letter)),
+            ],
+        ),
+        None => put_line(out, b"line", &[Label(n), Name(b"bad-map"), Name(kind)]),
+    }
+}

@@ -1,0 +1,91 @@
+//! How a call of the program ends.
+
+ghost use Rattle.std.specs.Prelude.{◌≡◌};
+
+use pc_model::NameText;
+use pc_script::{ScriptKind, ScriptReadFault};
+use std::alloc::AllocError;
+
+/// What has a limit.
+#[derive(Clone, Copy, Debug, PartialEq, Eq)]
+pub enum LimitKind {
+    /// The bytes of one file.
+    FileBytes,
+    /// The lines of a script.
+    ScriptLines,
+}
+
+/// How a call of the program ends. All but `Whole`, `SinkFault` and `NoMemory` have a fault line,
+/// which is the last line of the output.
+#[derive(Debug, Drop)]
+pub enum Status {
+    /// The command's work is whole.
+    Whole,
+    /// The words are not those of a command.
+    Usage,
+    /// The file could not be read.
+    ReadFault { name: NameText },
+    /// The first bad line of the script; lines are numbered from 1.
+    BadScript { line: u64, kind: ScriptKind },
+    /// The output could not be written.
+    SinkFault,
+    /// There is more of something than may be: more than this number.
+    Limit { which: LimitKind, number: u64 },
+    /// Memory ran out.
+    NoMemory,
+    /// The program cannot play this line yet, or, at line 0, a log with bytes.
+    NotBuilt { line: u64 },
+}
+
+/// The number of `Status::NoMemory`.
+pub const NO_MEMORY: u8 = 11;
+
+impl Status {
+    ghost use Rattle.parcon.specs.Ending.{status_number};
+
+    /// The number with which the program ends.
+    pub fn number(&self) -> u8
+        ensures { result ≡ status_number self.now }
+    {
+        match self {
+            Status::Whole => 0,
+            Status::Usage => 1,
+            Status::ReadFault { .. } => 2,
+            Status::BadScript { .. } => 5,
+            Status::SinkFault => 7,
+            Status::Limit { .. } => 9,
+            Status::NoMemory => NO_MEMORY,
+            Status::NotBuilt { .. } => 99,
+        }
+    }
+}
+
+impl From<AllocError> for Status {
+    ghost use Rattle.parcon.specs.declared.status.Status.TheVariants.{NoMemory};
+
+    ghost from_gives = { λ _ s. s ≡ NoMemory };
+
+    fn from(_e: AllocError) -> Status {
+        Status::NoMemory
+    }
+}
+
+impl From<ScriptReadFault> for Status {
+    ghost use Rattle.parcon.specs.Reading.{script_status};
+
+    ghost from_gives = { λ fault s. s ≡ script_status fault };
+
+    fn from(fault: ScriptReadFault) -> Status {
+        match fault {
+            ScriptReadFault::Bad(fault) => Status::BadScript {
+                line: fault.line,
+                kind: fault.kind,
+            },
+            ScriptReadFault::TooManyLines => Status::Limit {
+                which: LimitKind::ScriptLines,
+                number: 1_000_000,
+            },
+            ScriptReadFault::NoMemory => Status::NoMemory,
+        }
+    }
+}
