@@ -8,13 +8,47 @@ use std::test::Fail;
 /// More than any output of these tests.
 const ROOM: u64 = 1024;
 
-/// What stands outside a play of `a.log` and `a.script`: their bytes, the numbers of the reads, of
-/// the link's calls and of the writes that fail, those of the link's calls that fail after keeping,
-/// and the room of the sink.
-#[derive(Clone, Copy)]
-struct Outside {
-    log: &'static [u8],
-    script: &'static [u8],
+/// A log, a script, the output of the play and the number of its status.
+type Play = (&'static [u8], &'static [u8], &'static [u8], u8);
+
+/// Plays over which nothing fails. Of the faults of an input the first in this order decides: a log
+/// with bytes, a bad line of the script, a line that is not built.
+const PLAYS: [Play; 9] = [
+    (
+        b"",
+        b"assign 0\ncommit 1\n",
+        b"assign 0 epoch 1 at 0 map =\nline 2: unknown-part\n",
+        0,
+    ),
+    (
+        b"",
+        b"assign 0\nassign 0\ncommit 0\n",
+        b"assign 0 epoch 1 at 0 map =\ncommit 0 at 0 map = size 0\nline 2: already-held\n",
+        0,
+    ),
+    (b"", b"commit 0\n", b"line 1: not-held\n", 0),
+    (b"", b"", b"", 0),
+    (
+        b"",
+        b"# one part\n\nassign 0",
+        b"assign 0 epoch 1 at 0 map =\n",
+        0,
+    ),
+    (b"", b"assign 0\npoll 0 1\n", b"fault not-built 2\n", 99),
+    (
+        b"",
+        b"poll 0 1\nassign\n",
+        b"fault script 2 word-count\n",
+        5,
+    ),
+    (b"", b"assign 1024\n", b"fault script 1 out-of-range\n", 5),
+    (b"x", b"assign\n", b"fault not-built 0\n", 99),
+];
+
+/// The numbers of the reads, of the link's calls and of the writes that fail, those of the link's
+/// calls that fail after keeping, and the room of the sink.
+#[derive(Clone, Copy, Debug)]
+struct Faults {
     reads: &'static [u64],
     calls: &'static [u64],
     late: &'static [u64],
@@ -22,164 +56,147 @@ struct Outside {
     room: u64,
 }
 
-/// An empty log, a script, and nothing that fails.
-const fn of_script(script: &'static [u8]) -> Outside {
-    Outside {
-        log: b"",
-        script,
-        reads: &[],
-        calls: &[],
-        late: &[],
-        writes: &[],
-        room: ROOM,
-    }
-}
+const NONE: Faults = Faults {
+    reads: &[],
+    calls: &[],
+    late: &[],
+    writes: &[],
+    room: ROOM,
+};
 
 /// A script of which each line is played.
-const PLAYED: &[u8] = b"assign 0\ncommit 0\n";
+const SCRIPT: &[u8] = b"assign 0\ncommit 0\n";
 
-/// What each play prints, and the number of its status.
-const PLAYS: [(Outside, &[u8], u8); 19] = [
+/// What fails while that script is played, what is printed, the number of the status, and how many
+/// events there are.
+const FAULTS: [(Faults, &[u8], u8, u64); 9] = [
+    // The link fails at the commit, before keeping it and after.
     (
-        of_script(b"assign 0\ncommit 1\n"),
-        b"assign 0 epoch 1 at 0 map =\nline 2: unknown-part\n",
-        0,
-    ),
-    (
-        of_script(b"assign 0\nassign 0\ncommit 0\n"),
-        b"assign 0 epoch 1 at 0 map =\ncommit 0 at 0 map = size 0\nline 2: already-held\n",
-        0,
-    ),
-    (of_script(b"commit 0\n"), b"line 1: not-held\n", 0),
-    (of_script(b""), b"", 0),
-    (
-        of_script(b"# one part\n\nassign 0"),
-        b"assign 0 epoch 1 at 0 map =\n",
-        0,
-    ),
-    // The link fails at the commit, before keeping and after it.
-    (
-        Outside {
+        Faults {
+            reads: &[],
             calls: &[2],
-            ..of_script(PLAYED)
+            late: &[],
+            writes: &[],
+            room: ROOM,
         },
         b"assign 0 epoch 1 at 0 map =\ncommit-failed 0 at 0 map = size 0\nline 2: link-failed\n",
         0,
+        2,
     ),
     (
-        Outside {
+        Faults {
+            reads: &[],
+            calls: &[],
             late: &[2],
-            ..of_script(PLAYED)
+            writes: &[],
+            room: ROOM,
         },
         b"assign 0 epoch 1 at 0 map =\ncommit-failed 0 at 0 map = size 0\nline 2: link-failed\n",
         0,
+        2,
     ),
-    // The link fails at the assignment.
+    // It fails at the assignment.
     (
-        Outside {
+        Faults {
+            reads: &[],
             calls: &[1],
-            ..of_script(PLAYED)
+            late: &[],
+            writes: &[],
+            room: ROOM,
         },
         b"line 1: link-failed\nline 2: not-held\n",
+        0,
         0,
     ),
     // Each read fails in turn.
     (
-        Outside {
+        Faults {
             reads: &[1],
-            ..of_script(PLAYED)
+            calls: &[],
+            late: &[],
+            writes: &[],
+            room: ROOM,
         },
         b"fault read =a.log\n",
         2,
+        0,
     ),
     (
-        Outside {
+        Faults {
             reads: &[2],
-            ..of_script(PLAYED)
+            calls: &[],
+            late: &[],
+            writes: &[],
+            room: ROOM,
         },
         b"fault read =a.script\n",
         2,
+        0,
     ),
-    // Each write fails in turn: of the play, of a fault line, and after the first bytes.
+    // The writes fail: that of a play, that of a fault line, and the second of each.
     (
-        Outside {
+        Faults {
+            reads: &[],
+            calls: &[],
+            late: &[],
             writes: &[1],
-            ..of_script(PLAYED)
+            room: ROOM,
         },
         b"",
         7,
+        2,
     ),
     (
-        Outside {
+        Faults {
             reads: &[1],
+            calls: &[],
+            late: &[],
             writes: &[1],
-            ..of_script(PLAYED)
+            room: ROOM,
         },
         b"",
         7,
+        0,
     ),
     (
-        Outside {
+        Faults {
+            reads: &[],
+            calls: &[],
+            late: &[],
+            writes: &[2],
             room: 8,
-            ..of_script(PLAYED)
         },
         b"assign 0",
         7,
-    ),
-    (
-        Outside {
-            writes: &[2],
-            room: 8,
-            ..of_script(b"poll 0")
-        },
-        b"fault sc",
-        7,
-    ),
-    // The first bad line stands before a line that is not built, and the log before both.
-    (
-        of_script(b"assign 0\npoll 0 1\n"),
-        b"fault not-built 2\n",
-        99,
-    ),
-    (
-        of_script(b"poll 0 1\nassign\n"),
-        b"fault script 2 word-count\n",
-        5,
-    ),
-    (
-        of_script(b"assign 1024\n"),
-        b"fault script 1 out-of-range\n",
-        5,
-    ),
-    (
-        Outside {
-            log: b"x",
-            ..of_script(b"assign\n")
-        },
-        b"fault not-built 0\n",
-        99,
-    ),
-    (
-        Outside {
-            log: b"x",
-            reads: &[2],
-            ..of_script(PLAYED)
-        },
-        b"fault read =a.script\n",
         2,
+    ),
+    (
+        Faults {
+            reads: &[1],
+            calls: &[],
+            late: &[],
+            writes: &[],
+            room: 8,
+        },
+        b"fault re",
+        7,
+        0,
     ),
 ];
 
+/// Plays `a.log` and `a.script` with these bytes.
 fn play(
     alloc: Global,
     words: &[&str],
-    outside: &Outside,
+    log: &[u8],
+    script: &[u8],
+    faults: &Faults,
     out: &mut MemorySink,
 ) -> Result<Ended<MemoryKeeper>, AllocError> {
-    let mut files = MemoryFiles::new(alloc, outside.reads)?;
-    files.add("a.log", outside.log)?;
-    files.add("a.script", outside.script)?;
-    let link = MemoryKeeper::new(alloc, outside.calls, outside.late)?;
+    let mut files = MemoryFiles::new(alloc, faults.reads)?;
+    files.add("a.log", log)?;
+    files.add("a.script", script)?;
+    let link = MemoryKeeper::new(alloc, faults.calls, faults.late)?;
     let mut owned = Vec::new(alloc);
     for word in words {
         owned.push(String::from_str(alloc, word)?)?;
@@ -187,43 +204,31 @@ fn play(
     Ok(offline(alloc, &owned, &mut files, link, out))
 }
 
+const WORDS: [&str; 3] = ["play", "a.log", "a.script"];
+
 #[test]
 fn plays(rt: HostRuntime) -> Result<(), Fail> {
-    for (outside, output, status) in PLAYS {
-        let mut out = MemorySink::new(rt.alloc(), outside.room, outside.writes)?;
-        let ended = play(
-            rt.alloc(),
-            &["play", "a.log", "a.script"],
-            &outside,
-            &mut out,
-        )?;
+    for (log, script, output, status) in PLAYS {
+        let mut out = MemorySink::new(rt.alloc(), ROOM, &[])?;
+        let ended = play(rt.alloc(), &WORDS, log, script, &NONE, &mut out)?;
         assert_eq!(rt; out.bytes(), output);
-        assert_eq!(rt; ended.status.number(), status, "at {output:?}");
+        assert_eq!(rt; ended.status.number(), status, "at {script:?}");
     }
     Ok(())
 }
 
-/// What the link has after a commit that failed before it was kept, and after it was kept.
 #[test]
-fn a_failed_commit_is_kept_or_not(rt: HostRuntime) -> Result<(), Fail> {
-    for late in [false, true] {
-        let outside = Outside {
-            calls: if late { &[] } else { &[2] },
-            late: if late { &[2] } else { &[] },
-            ..of_script(PLAYED)
-        };
-        let mut out = MemorySink::new(rt.alloc(), ROOM, &[])?;
-        let ended = play(
-            rt.alloc(),
-            &["play", "a.log", "a.script"],
-            &outside,
-            &mut out,
-        )?;
+fn each_fault_of_the_outside(rt: HostRuntime) -> Result<(), Fail> {
+    for (faults, output, status, events) in FAULTS {
+        let mut out = MemorySink::new(rt.alloc(), faults.room, faults.writes)?;
+        let ended = play(rt.alloc(), &WORDS, b"", SCRIPT, &faults, &mut out)?;
+        assert_eq!(rt; out.bytes(), output);
+        assert_eq!(rt; ended.status.number(), status, "at {faults:?}");
+        assert_eq!(rt; ended.journal.len(), events, "at {faults:?}");
         let mut link = ended.link;
         let commit = link.get(rt.alloc(), 0).map_err(|_| AllocError)?;
         assert_eq!(rt; commit.position, 0);
         assert_eq!(rt; commit.map.as_str(), "");
-        assert_eq!(rt; ended.journal.len(), 2);
     }
     Ok(())
 }
@@ -244,7 +249,7 @@ const NO_COMMANDS: [&[&str]; 8] = [
 fn other_words_are_no_command(rt: HostRuntime) -> Result<(), Fail> {
     for words in NO_COMMANDS {
         let mut out = MemorySink::new(rt.alloc(), ROOM, &[])?;
-        let ended = play(rt.alloc(), words, &of_script(PLAYED), &mut out)?;
+        let ended = play(rt.alloc(), words, b"", SCRIPT, &NONE, &mut out)?;
         assert_eq!(rt; out.bytes(), b"fault usage\n".as_slice());
         assert_eq!(rt; ended.status.number(), 1, "at {words:?}");
     }
@@ -253,21 +258,27 @@ fn other_words_are_no_command(rt: HostRuntime) -> Result<(), Fail> {
 
 /// One line more than a script may have.
 #[test]
-fn a_script_has_a_most_number_of_lines(rt: HostRuntime) -> Result<(), Fail> {
+fn a_script_of_too_many_lines(rt: HostRuntime) -> Result<(), Fail> {
     let script = vec![in rt.alloc(); b'\n'; 1_000_001]?;
-    let mut files = MemoryFiles::new(rt.alloc(), &[])?;
-    files.add("a.log", b"")?;
-    files.add("a.script", script.as_slice())?;
     let mut out = MemorySink::new(rt.alloc(), ROOM, &[])?;
-    let link = MemoryKeeper::new(rt.alloc(), &[], &[])?;
-    let mut words = Vec::new(rt.alloc());
-    for word in ["play", "a.log", "a.script"] {
-        words.push(String::from_str(rt.alloc(), word)?)?;
-    }
-    let ended = offline(rt.alloc(), &words, &mut files, link, &mut out);
+    let ended = play(rt.alloc(), &WORDS, b"", script.as_slice(), &NONE, &mut out)?;
     assert_eq!(rt;
         out.bytes(),
         b"fault limit script-lines 1000000\n".as_slice()
+    );
+    assert_eq!(rt; ended.status.number(), 9);
+    Ok(())
+}
+
+/// One byte more than a file may have.
+#[test]
+fn a_log_of_too_many_bytes(rt: HostRuntime) -> Result<(), Fail> {
+    let log = vec![in rt.alloc(); 0; 268_435_457]?;
+    let mut out = MemorySink::new(rt.alloc(), ROOM, &[])?;
+    let ended = play(rt.alloc(), &WORDS, log.as_slice(), b"", &NONE, &mut out)?;
+    assert_eq!(rt;
+        out.bytes(),
+        b"fault limit file-bytes 268435456\n".as_slice()
     );
     assert_eq!(rt; ended.status.number(), 9);
     Ok(())
