@@ -17,6 +17,7 @@ use Rattle.pc_laws.proofs.Blocked.{Rises-drop}
 use Rattle.pc_laws.proofs.SoundLaw.{keeps_passing}
 use Rattle.pc_laws.proofs.PositionLaw.{is_in_order, from_begin-rises}
 use Rattle.pc_laws.proofs.JobsLaw.{keeps_jobs}
+use Rattle.pc_laws.proofs.HighLaw.{blocked_has_high}
 
 -- no offset from the end on lies below it
 none-below : (end n : ℕ) (rs : List Record) → end ≤ n → Rises n rs → filter
@@ -78,6 +79,7 @@ is_kept given h legal = record {
   known = λ p. known-front given h p legal;
   passing = λ told. keeps_passing given h told legal;
   jobs = keeps_jobs given h legal;
+  high = λ p. blocked_has_high given h p legal;
   order = λ told p. is_in_order given h p told legal;
 }
 

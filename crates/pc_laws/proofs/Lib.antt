@@ -9,5 +9,7 @@ pub mod PositionLaw
 pub mod Blocked
 pub mod DoneLaw
 pub mod StallLaw
+pub mod HighLaw
+pub mod HeldLaw
 pub mod JobsLaw
 pub mod KeptLaw

@@ -110,7 +110,7 @@ bits-none b marks above = elim (option_cases (high_at marks)) [
       rw (high.1, nothing) refl
 ]
 
-size-none : (limit b : ℕ) (marks : List Mark) → bits_at b marks ≡ [] →
+pub size-none : (limit b : ℕ) (marks : List Mark) → bits_at b marks ≡ [] →
     (commit_at limit b marks).size ≡ 0
 unfolding commit_at best_map
 size-none limit b marks none = rw none refl

@@ -1,13 +1,15 @@
 -- What every legal history keeps: the facts that the laws rest on.
-use Rattle.std.specs.Prelude.{ℕ, ◌+◌, ◌≡◌, ◌<◌, ◌⊎◌, true, false, List}
+use Rattle.std.specs.Prelude.{ℕ, ◌+◌, ◌≡◌, ◌<◌, ◌⊎◌, Bool, true, false, ◌==◌, List, Some}
 use Rattle.pc_model.specs.declared.event.Event.{Event}
+use Rattle.pc_model.specs.declared.event.Event.TheVariants.{Assign}
 use Rattle.pc_model.specs.declared.commit.Commit.{Commit}
 use Rattle.pc_model.specs.Record.{Record}
 use Rattle.pc_model.specs.Given.{Given}
 use Rattle.pc_model.specs.Jobs.{Job, jobs_of, open_jobs}
 use Rattle.pc_model.specs.Epochs.{epoch_of, is_held, is_current}
 use Rattle.pc_model.specs.Stored.{may_store}
-use Rattle.pc_model.specs.Known.{assigned_commit, records_from_begin, polled_records, known_records, has_succeeded, is_complete}
+use Rattle.pc_model.specs.Known.{assigned_commit, records_from_begin, polled_records, known_records, has_succeeded, is_complete, high_of}
+use Rattle.pc_model.specs.Pressure.{is_blocked}
 use Rattle.pc_model.specs.Retry.{failures_of}
 use Rattle.pc_model.specs.Next.{OrderingKey, has_key}
 use Rattle.pc_model.specs.Sound.{was_done, PassesSoundly}
@@ -52,5 +54,13 @@ pub record IsKept (given : Given) (h : List Event) : Type 0 where
   pub passing : given.is_told ≡ true → KeepsPassing given h
   -- of each key one job at most is out, and it is at work
   pub jobs : KeepsJobs given h
+  -- a part that is held and blocked has a greatest complete offset
+  pub high : (p : ℕ) → is_held h p ≡ true → is_blocked given h p ≡ true
+      → (g : ℕ) × (high_of given h p ≡ Some g)
   -- over such a link, the commits that may be stored for a part stand in order
   pub order : given.is_told ≡ true → (p : ℕ) → IsInOrder given h p
+
+-- whether the event is an assignment of the part
+abbrev pub is_assign_of : Event → ℕ → Bool
+is_assign_of (Assign p epoch position text) q = p == q
+is_assign_of v q = false

@@ -18,7 +18,7 @@ ghost use Rattle.pc_model.specs.Next.{eligible_offsets, next_record};
 ghost use Rattle.pc_model.specs.Lawful.{IsLegal};
 ghost use Rattle.pc_model.specs.Sound.{IsSound, IsOrderly};
 ghost use Rattle.pc_laws.specs.Lists.{In};
-ghost use Rattle.pc_laws.specs.Kept.{IsKept};
+ghost use Rattle.pc_laws.specs.Kept.{IsKept, is_assign_of};
 ghost use Rattle.pc_laws.specs.Positions.{PositionsRise};
 ghost use Rattle.pc_laws.specs.Stall.{HasWork, GoesOn};
 
@@ -62,6 +62,13 @@ pub fn stale_changes_nothing()
 pub fn positions_rise()
     ensures { (given : Given) (h : List Event) → given.is_told ≡ true → IsLegal given h →
         PositionsRise h }
+{}
+
+/// What may be stored for a part changes only while it is held, or by its assignment.
+pub fn stored_changes_while_held()
+    ensures { (given : Given) (event : Event) (h : List Event) (p : ℕ) → IsLegal given (event ∷ h)
+        → is_held h p ≡ false → is_assign_of event p ≡ false
+        → may_store given (event ∷ h) p ≡ may_store given h p }
 {}
 
 /// Within an epoch a part's position never falls.
