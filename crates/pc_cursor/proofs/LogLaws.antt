@@ -3,14 +3,10 @@ use Rattle.std.proofs.Common.{◌≡◌, ℕ, zero, suc, ◌+◌, ◌-◌, ◌<�
 use Rattle.std.proofs.lemmas.List.{drop_all, drop_at, length-append}
 use Rattle.pc_bytes.specs.Fields.{◌>>=◌}
 use Rattle.pc_bytes.proofs.VarintLaws.{bind_ok}
-use Rattle.pc_model.specs.Record.{Record}
-use Rattle.std.proofs.lemmas.List.Concat.{flat_map-cons}
-use Rattle.pc_batch.specs.Batch.{Contents, Placed, IsBatchAt, batch_from, given_by}
+use Rattle.pc_batch.specs.Batch.{Contents, Placed, IsBatchAt, batch_from}
 use Rattle.pc_batch.proofs.BatchLaws.{batch_from-again}
 use Rattle.pc_cursor.specs.declared.fault.LogFault.{LogFault}
-use Rattle.pc_cursor.specs.Log.{IsAbove, AreBatches, IsLog, contents_of, told_at, above_of, next_batch, batches_at, all_batches, list_of, batches_of, records_of, IsChecked}
-use Rattle.pc_cursor.specs.Cursor.{front_from, records_from}
-use Rattle.pc_cursor.proofs.CursorLemmas.{front-suc, front-zero, front-past}
+use Rattle.pc_cursor.specs.Log.{IsAbove, AreBatches, IsLog, contents_of, told_at, above_of, next_batch, batches_at, all_batches, list_of, batches_of}
 use Rattle.pc_cursor.proofs.LogLemmas.{ok_is, next-is, next-moves, above-ok, batches-step, batches-end}
 
 -- ---- the next batch
@@ -23,7 +19,7 @@ above-is place (Some last) b x e = by_test (leb b.contents.base last) refl _ e
     by_test true h f e = absurd cc
     by_test false h f e = grind (arith, h)
 
-next-above : (log : List ℕ) (place : ℕ) (before : Option ℕ) (b : Placed) → next_batch log place before ≡ Ok b → IsAbove before b.contents.base
+pub next-above : (log : List ℕ) (place : ℕ) (before : Option ℕ) (b : Placed) → next_batch log place before ≡ Ok b → IsAbove before b.contents.base
 next-above log place before b e =
     let a = bind_ok (told_at place (batch_from log place)) (above_of place before) b e in
     subst (λ (x : Placed). IsAbove before x.contents.base) (above-ok place before a.0 b a.2) (above-is place before a.0 b a.2)
@@ -117,30 +113,3 @@ log-unread log f cs e is =
 pub batches_of-is : (log : List ℕ) (bs : List Placed) → all_batches log ≡ Ok bs → batches_of log ≡ bs
 unfolding batches_of
 batches_of-is log bs e = ap list_of e
-
--- ---- the records of a checked log
-
-records_by : (n : ℕ) (log : List ℕ) (place : ℕ) (before : Option ℕ) (bs : List Placed) → ((b : Placed) (others : List Placed) → next_batch log place before ≡ Ok b → batches_at n log b.end (Some b.contents.last) ≡ Ok others → front_from n log b.end ≡ records_of (contents_of others))
-    → (next_batch log place before >>= λ first. batches_at n log first.end (Some first.contents.last) >>= λ others. Ok (first ∷ others)) ≡ Ok bs → front_from (suc n) log place ≡ records_of (contents_of bs)
-records_by n log place before bs more e =
-    let first = bind_ok (next_batch log place before) _ bs e in
-    let others = bind_ok (batches_at n log first.0.end (Some first.0.contents.last)) _ bs first.2 in
-    let read = batch_from-again log place first.0 (next-is log place before first.0 first.1) in
-    front-suc n log place first.0 read
-    ∙ ap (λ (l : List Record). given_by first.0.contents ++ l) (more first.0 others.0 first.1 others.1)
-    ∙ sym (flat_map-cons given_by first.0.contents (contents_of others.0))
-    ∙ ap (λ (l : List Placed). records_of (contents_of l)) (ok_is (first.0 ∷ others.0) bs others.2)
-
-front-of_batches : (n : ℕ) (log : List ℕ) (place : ℕ) (before : Option ℕ) (bs : List Placed) → length log ≤ n + place → batches_at n log place before ≡ Ok bs → front_from n log place ≡ records_of (contents_of bs)
-unfolding batches_at
-front-of_batches zero log place before bs enough e = front-zero log place ∙ ap (λ (l : List Placed). records_of (contents_of l)) (ok_is [] bs e)
-front-of_batches (suc n) log place before bs enough e =
-    by_end (leb (length log) place) refl e (records_by n log place before bs (λ b others h more. front-of_batches n log b.end (Some b.contents.last) others (let m = next-moves log place before b h in omega arith) more))
-  where
-    by_end : (t : Bool) → leb (length log) place ≡ t → cond t (Ok []) (next_batch log place before >>= λ first. batches_at n log first.end (Some first.contents.last) >>= λ others. Ok (first ∷ others)) ≡ Ok bs
-        → ((next_batch log place before >>= λ first. batches_at n log first.end (Some first.contents.last) >>= λ others. Ok (first ∷ others)) ≡ Ok bs → front_from (suc n) log place ≡ records_of (contents_of bs)) → front_from (suc n) log place ≡ records_of (contents_of bs)
-    by_end true h e go = front-past (suc n) log place (grind (arith, h)) ∙ ap (λ (l : List Placed). records_of (contents_of l)) (ok_is [] bs e)
-    by_end false h e go = go e
-
-pub records_from-checked : (log : List ℕ) → IsChecked log → records_from log 0 ≡ records_of (contents_of (batches_of log))
-records_from-checked log is = front-of_batches (length log) log 0 None (batches_of log) (omega arith) is.whole

@@ -76,6 +76,10 @@ list_of (Err f) = []
 unfoldable pub batches_of : List ℕ → List Placed
 batches_of log = list_of (all_batches log)
 
+-- the records of a log that was checked
+abbrev pub all_records : List ℕ → List Record
+all_records log = records_of (contents_of (batches_of log))
+
 -- every batch of the log can be read
 pub record IsChecked (log : List ℕ) : Type 0 where
   pub whole : all_batches log ≡ Ok (batches_of log)
