@@ -28,7 +28,8 @@ and_on (Err f) more = []
 -- the records of the batches from a place on, up to the first that is none
 unfoldable pub front_from : ℕ → List ℕ → ℕ → List Record
 front_from zero log place = []
-front_from (suc turns) log place = and_on (batch_from log place) (λ b. given_by b.contents ++ front_from turns log b.end)
+front_from (suc turns) log place = and_on (batch_from log place)
+    (λ b. given_by b.contents ++ front_from turns log b.end)
 
 -- Each batch takes a byte at least, so that as many turns suffice as there are bytes.
 abbrev pub records_from : List ℕ → ℕ → List Record

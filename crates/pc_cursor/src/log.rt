@@ -88,7 +88,8 @@ impl<'a> Log<'a> {
     pub fn check(alloc: Global, bytes: &'a [u8]) -> Result<Log<'a>, CheckFault>
         // What is read is a log, and a log is read unless memory is wanting.
         ensures found { IfOk result (λ log. IsLog bytes.now (contents_of log)) }
-        ensures only { (batches : List Contents) → IsLog bytes.now batches → GivesLog result batches }
+        ensures only { (batches : List Contents) →
+            IsLog bytes.now batches → GivesLog result batches }
         // Which fault it is.
         ensures value { IfOk result (λ log. all_batches bytes.now ≡ Ok log) }
         ensures fault { IfErr result (λ e. Tells e (all_batches bytes.now)) }

@@ -7,7 +7,8 @@ use Rattle.pc_cursor.proofs.cursor.CursorIterator.next.Given as goal
 -- what is left stays, and so does the log
 abbrev pub invariant-batches : goal.invariant-batches
 invariant-batches l =
-    (not_below l.self-inside.least (l.self-inside.records ++ records_from l.self-inside.bytes.now l.self-inside.place) ≡ l.fn.self.left)
+    (not_below l.self-inside.least (l.self-inside.records
+    ++ records_from l.self-inside.bytes.now l.self-inside.place) ≡ l.fn.self.left)
     × (all_records l.self-inside.bytes.now ≡ l.fn.self.all)
     × IsIndex l.self-inside.bytes.now l.self-inside.entries.now
 

@@ -13,8 +13,10 @@ returns-in-Some c =
     let o = c.args.offset in
     let records = records_of (contents_of c.args.self.now) in
     let log = ap (λ (l : List Placed). records_of (contents_of l)) c.self.view_is in
-    let rises = subst (λ (l : List Record). rises_from 0 l ≡ true) log (checked-rise c.self.inside.bytes.now c.self.invariant.0.checked) in
-    let left = ap (not_below o) (sym log) ∙ sym (ap (not_below o) c.new-cursor.ensures.all) ∙ sym c.seek.ensures.left ∙ c.in-Some.ensures.steps.0 in
+    let rises = subst (λ (l : List Record). rises_from 0 l
+    ≡ true) log (checked-rise c.self.inside.bytes.now c.self.invariant.0.checked) in
+    let left = ap (not_below o) (sym log) ∙ sym (ap (not_below o) c.new-cursor.ensures.all)
+    ∙ sym c.seek.ensures.left ∙ c.in-Some.ensures.steps.0 in
     sym (find-sought 0 o records rises ∙ ap (begins_at o) left)
 
 pub returns-in-None : goal.returns-in-None
@@ -22,6 +24,8 @@ returns-in-None c =
     let o = c.args.offset in
     let records = records_of (contents_of c.args.self.now) in
     let log = ap (λ (l : List Placed). records_of (contents_of l)) c.self.view_is in
-    let rises = subst (λ (l : List Record). rises_from 0 l ≡ true) log (checked-rise c.self.inside.bytes.now c.self.invariant.0.checked) in
-    let left = ap (not_below o) (sym log) ∙ sym (ap (not_below o) c.new-cursor.ensures.all) ∙ sym c.seek.ensures.left ∙ c.in-None.ensures.steps.0.0 in
+    let rises = subst (λ (l : List Record). rises_from 0 l
+    ≡ true) log (checked-rise c.self.inside.bytes.now c.self.invariant.0.checked) in
+    let left = ap (not_below o) (sym log) ∙ sym (ap (not_below o) c.new-cursor.ensures.all)
+    ∙ sym c.seek.ensures.left ∙ c.in-None.ensures.steps.0.0 in
     sym (find-sought 0 o records rises ∙ ap (begins_at o) left)
