@@ -1,6 +1,6 @@
 //! The logs of all parts. Clauses see the records of each.
 
-ghost use Rattle.std.specs.Prelude.{◌≡◌, ◌+◌, ◌-◌, ◌<◌, ◌≤◌, ◌++◌, true, List, [], length, take, replicate, Option, Some, None, Err, is_some, option_map, unwrap_or, OnOk, OnErr, IfErr, IfSome};
+ghost use Rattle.std.specs.Prelude.{◌≡◌, ◌-◌, ◌<◌, ◌≤◌, ◌++◌, true, [], length, take, replicate, Some, None, Err, is_some, option_map, unwrap_or, OnOk, OnErr, IfErr, IfSome};
 ghost use Rattle.std.specs.List.{list_all};
 ghost use Rattle.pc_model.specs.Given.{rises_from};
 ghost use Rattle.pc_cursor.specs.Cursor.{not_below};

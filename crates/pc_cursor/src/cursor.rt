@@ -1,6 +1,6 @@
 //! A cursor over the records of a log: clauses see the log's records and those that are left.
 
-ghost use Rattle.std.specs.Prelude.{◌≡◌, nat_le, filter};
+ghost use Rattle.std.specs.Prelude.{◌≡◌};
 ghost use Rattle.std.specs.Iterator.{YieldsFirstBy};
 ghost use Rattle.pc_batch.specs.Record.{plain};
 ghost use Rattle.pc_cursor.specs.Cursor.{not_below, records_from};

@@ -1,6 +1,6 @@
 //! A log that was checked: clauses see its batches, with the place after each.
 
-ghost use Rattle.std.specs.Prelude.{◌≡◌, ◌<◌, ◌^◌, ◌-◌, ◌==◌, true, List, length, map, find, is_some, slice_get, option_map, IfOk, IfErr};
+ghost use Rattle.std.specs.Prelude.{◌≡◌, ◌-◌, ◌==◌, true, List, length, find, is_some, slice_get, option_map, IfOk, IfErr};
 ghost use Rattle.pc_batch.specs.Batch.{Contents, Placed};
 ghost use Rattle.pc_model.specs.Given.{rises_from};
 ghost use Rattle.pc_cursor.specs.Entries.{IsIndex};
