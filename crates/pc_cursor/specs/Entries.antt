@@ -1,9 +1,17 @@
 -- What a log keeps of its batches: an entry for each.
-use Rattle.std.specs.Prelude.{ℕ, List, [], ◌∷◌}
-use Rattle.pc_batch.specs.Batch.{Placed}
-use Rattle.pc_cursor.specs.declared.log.Entry.{Entry}
+use Rattle.std.specs.Prelude.{◌≡◌, ℕ, ◌+◌, List, [], ◌∷◌, length}
+use Rattle.pc_batch.specs.Batch.{Placed, given_by}
+use Rattle.pc_cursor.specs.declared.entry.Entry.{Entry}
+use Rattle.pc_cursor.specs.Log.{batches_of, IsChecked}
 
--- the entries of batches of which the first begins at a place
-abbrev pub entries_from : ℕ → List Placed → List Entry
-entries_from place [] = []
-entries_from place (b ∷ bs) = record { place = place; base = b.contents.base; last = b.contents.last } ∷ entries_from b.end bs
+-- the entries of batches of which the first begins at a place, behind so many records
+abbrev pub entries_from : ℕ → ℕ → List Placed → List Entry
+entries_from place before [] = []
+entries_from place before (b ∷ bs) = record
+    { place = place; base = b.contents.base; last = b.contents.last; before = before }
+    ∷ entries_from b.end (before + length (given_by b.contents)) bs
+
+-- the log was checked, and these are the entries of its batches
+pub record IsIndex (log : List ℕ) (entries : List Entry) : Type 0 where
+  pub checked : IsChecked log
+  pub kept : entries ≡ entries_from 0 0 (batches_of log)

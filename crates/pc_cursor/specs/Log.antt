@@ -21,7 +21,8 @@ IsAbove (Some last) base = last < base
 -- batches one after the other
 abbrev pub AreBatches : Option ℕ → List ℕ → List Contents → Type 0
 AreBatches before bytes [] = bytes ≡ []
-AreBatches before bytes (b ∷ bs) = (front : List ℕ) × (back : List ℕ) × IsBatch front b × IsAbove before b.base × AreBatches (Some b.last) back bs × (bytes ≡ front ++ back)
+AreBatches before bytes (b ∷ bs) = (front : List ℕ) × (back : List ℕ) × IsBatch front b
+    × IsAbove before b.base × AreBatches (Some b.last) back bs × (bytes ≡ front ++ back)
 
 -- the bytes are a log of these batches
 abbrev pub IsLog : List ℕ → List Contents → Type 0
@@ -45,14 +46,17 @@ told_at place (Err f) = Err (record { place = place; fault = Batch f })
 -- a batch is above the one before it
 abbrev pub above_of : ℕ → Option ℕ → Placed → Result Placed LogFault
 above_of place None b = Ok b
-above_of place (Some last) b = if nat_le b.contents.base last then Err (record { place = place; fault = OffsetsFall last b.contents.base }) else Ok b
+above_of place (Some last) b =
+    if nat_le b.contents.base last
+    then Err (record { place = place; fault = OffsetsFall last b.contents.base })
+    else Ok b
 
 -- the next batch of the log
 abbrev pub next_batch : List ℕ → ℕ → Option ℕ → Result Placed LogFault
 next_batch log place before = told_at place (batch_from log place) >>= above_of place before
 
--- All batches from a place on, or the first fault. Each takes a byte at least, so that as many turns
--- suffice as there are bytes.
+-- All batches from a place on, or the first fault. Each takes a byte at least, so that as many
+-- turns suffice as there are bytes.
 unfoldable pub batches_at : ℕ → List ℕ → ℕ → Option ℕ → Result (List Placed) LogFault
 batches_at zero log place before = Ok []
 batches_at (suc turns) log place before = if nat_le (length log) place then Ok [] else (do
@@ -75,6 +79,10 @@ list_of (Err f) = []
 
 unfoldable pub batches_of : List ℕ → List Placed
 batches_of log = list_of (all_batches log)
+
+-- the records of a log that was checked
+abbrev pub all_records : List ℕ → List Record
+all_records log = records_of (contents_of (batches_of log))
 
 -- every batch of the log can be read
 pub record IsChecked (log : List ℕ) : Type 0 where

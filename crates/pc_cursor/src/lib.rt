@@ -4,6 +4,7 @@
 #![tactic(auto)]
 
 mod cursor;
+mod entry;
 mod fault;
 mod log;
 

@@ -1,0 +1,51 @@
+-- The logs of the parts as a list, and what is taken of them.
+use Rattle.std.specs.Prelude.{◌≡◌, ◌≤◌, ◌<◌, ℕ, ◌+◌, ◌-◌, true, List, [], ◌++◌, length, map, take, replicate, Option, Some, None, is_some, option_map, unwrap_or, nat_le, nat_lt, filter, slice_get, slice_set, if◌then◌else◌}
+use Rattle.std.specs.List.{list_all, take_while, sum_by}
+use Rattle.std.specs.Option.{option_flatten}
+use Rattle.pc_model.specs.Record.{Record}
+use Rattle.pc_model.specs.Given.{rises_from}
+use Rattle.pc_batch.specs.Batch.{Placed}
+use Rattle.pc_cursor.specs.Log.{contents_of, records_of}
+use Rattle.pc_broker_log.specs.declared.fault.AddFault.{AddFault}
+use Rattle.pc_broker_log.specs.declared.fault.AddFault.TheVariants.{UnknownPart, TwiceGiven, TooManyRecords}
+
+-- the records of each log
+abbrev pub logs_of : List (Option (List Placed)) → List (Option (List Record))
+logs_of logs = map (λ log. option_map (λ batches. records_of (contents_of batches)) log) logs
+
+-- the records of the part's log, if it has one
+abbrev pub log_at : List (Option (List Record)) → ℕ → Option (List Record)
+log_at logs part = option_flatten (slice_get logs part)
+
+-- how many records all logs have
+abbrev pub record_total : List (Option (List Record)) → ℕ
+record_total logs = sum_by (λ log. length (unwrap_or log [])) logs
+
+-- why a log of so many records is not taken for the part, the first cause that applies
+abbrev pub add_refusal : List (Option (List Record)) → ℕ → ℕ → Option AddFault
+add_refusal logs part records =
+    if nat_le 1024 part then Some UnknownPart
+    else if is_some (log_at logs part) then Some TwiceGiven
+    else if nat_lt 1000000 (record_total logs + records) then Some TooManyRecords
+    else None
+
+-- the logs with one more, of this part
+abbrev pub with_log : List (Option (List Record)) → ℕ → List Record → List (Option (List Record))
+with_log logs part log = slice_set (logs ++ replicate (part + 1 - length logs) None) part (Some log)
+
+-- the records up to an offset
+abbrev pub upto : ℕ → List Record → List Record
+upto last records = filter (λ r. nat_le r.offset last) records
+
+-- the first records, at most so many, before the first that is above an offset
+abbrev pub first_upto : ℕ → ℕ → List Record → List Record
+first_upto most last records = take most (take_while (λ r. nat_le r.offset last) records)
+
+-- a table of logs with so many records: parts are below 1,024, the last place has a log, and each
+-- log's offsets rise
+pub record IsTable (logs : List (Option (List Record))) (records : ℕ) : Type 0 where
+  pub counted : records ≡ record_total logs
+  pub few : records ≤ 1000000
+  pub places : length logs ≤ 1024
+  pub greatest : 0 < length logs → is_some (log_at logs (length logs - 1)) ≡ true
+  pub rise : list_all (λ log. rises_from 0 (unwrap_or log [])) logs ≡ true
