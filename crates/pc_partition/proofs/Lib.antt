@@ -1,0 +1,3 @@
+pub mod RunsLemmas
+pub mod WindowLemmas
+pub mod StateLemmas
