@@ -1,3 +1,4 @@
 pub mod RunsLemmas
 pub mod WindowLemmas
 pub mod StateLemmas
+pub mod BitsUpto

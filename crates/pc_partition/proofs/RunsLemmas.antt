@@ -1,8 +1,8 @@
 -- The offsets in runs, and runs of which one is replaced.
-use Rattle.std.proofs.Common.{◌≡◌, ℕ, zero, suc, ◌+◌, ◌-◌, ◌^◌, ◌<◌, ◌≤◌, Bool, true, false, not, ◌&&◌, ◌||◌, cond, eqb, ltb, leb, List, [], ◌∷◌, ◌++◌, length, get_or, take, drop, set, filter, refl, sym, ap, subst, ◌∙◌, arith, add-one, zero-add, add-zero, inl, inr}
+use Rattle.std.proofs.Common.{◌≡◌, ℕ, zero, suc, ◌+◌, ◌-◌, ◌^◌, ◌<◌, ◌≤◌, Bool, true, false, not, ◌&&◌, ◌||◌, eqb, ltb, leb, List, [], ◌∷◌, ◌++◌, length, get_or, set, refl, sym, ap, subst, ◌∙◌, arith, add-one, zero-add, add-zero, inl, inr}
 use Rattle.std.specs.List.{AllWithin, insert, list_any, range_with_len, remove}
 use Rattle.std.specs.List.Sorted.{IsNonDecreasingBy}
-use Rattle.std.proofs.lemmas.Bool.{cases_lt, cases_eq, eq-eqb, ne_eqb, lt-ltb, le-ltb, ltb-true}
+use Rattle.std.proofs.lemmas.Bool.{cases_eq, eq-eqb, ne_eqb, le-ltb, ltb-true}
 use Rattle.std.proofs.lemmas.Bool.Decides.{nat_tests}
 use Rattle.std.proofs.lemmas.List.{append_assoc, append-nil, length-append}
 use Rattle.std.proofs.lemmas.List.Folds.{list_any-append}
@@ -112,11 +112,11 @@ pub is_in-at : (o least count : ℕ) (runs : List (ℕ × ℕ)) (i : ℕ) (d : �
 is_in-at o least count [] i d are within low above = absurd (omega arith)
 is_in-at o least count (run ∷ runs) zero d are within low above =
     let rest = is_in-below o (o + 1) count runs (AreRuns-after o (run.0 + run.1 + 1) count runs are.3
-        (λ e some. above 1 e (omega arith) (omega arith))) (omega arith) in
+    (λ e some. above 1 e (omega arith) (omega arith))) (omega arith) in
     rw rest (grind (arith, nat_tests))
 is_in-at o least count (run ∷ runs) (suc i) d are within low above =
     let ih = is_in-at o (run.0 + run.1 + 1) count runs i d are.3 (omega arith) low
-        (λ j e lt inside. above (suc j) e (omega arith) (omega arith)) in
+    (λ j e lt inside. above (suc j) e (omega arith) (omega arith)) in
     let start = AreRuns-least (run.0 + run.1 + 1) count runs i d are.3 (omega arith) in
     let past : ltb o (run.0 + run.1) ≡ false = le-ltb o (run.0 + run.1) (omega (arith, start, low)) in
     rw (past, ih) (grind (arith, nat_tests))
@@ -163,9 +163,13 @@ AreRuns-append : (low end count : ℕ) (others runs : List (ℕ × ℕ)) → Are
     → end ≤ count → low ≤ end + 1 → AreRuns (end + 1) count runs → AreRuns low count (others ++ runs)
 AreRuns-append low end count [] runs are le fits rest =
     AreRuns-lower low (end + 1) count runs fits rest
-AreRuns-append low end count (run ∷ others) runs are le fits rest =
-    (are.0, are.1, omega (arith, are.2), AreRuns-append (run.0 + run.1 + 1) end count others runs are.3
-    le (omega (arith, are.2)) rest)
+AreRuns-append low end count (run ∷ others) runs are le fits rest = (
+  are.0,
+  are.1,
+  omega (arith, are.2),
+  AreRuns-append (run.0 + run.1 + 1) end count others runs are.3
+      le (omega (arith, are.2)) rest,
+)
 
 -- runs within the place of one run are in order there
 pub AreRuns-splice : (least count : ℕ) (i : ℕ) (d : ℕ × ℕ) (others runs : List (ℕ × ℕ))
@@ -184,8 +188,10 @@ without-offsets_below : (o least count : ℕ) (runs : List (ℕ × ℕ)) → Are
 without-offsets_below o least count [] are below = refl
 without-offsets_below o least count (run ∷ runs) are below =
     filter-append (λ x. not (eqb x o)) (range_with_len run.0 run.1) (offsets_in runs)
-    ∙ rw (without-above o run.0 run.1 (omega (arith, are.0)),
-    without-offsets_below o (run.0 + run.1 + 1) count runs are.3 (omega (arith, are.0))) refl
+    ∙ rw (
+      without-above o run.0 run.1 (omega (arith, are.0)),
+      without-offsets_below o (run.0 + run.1 + 1) count runs are.3 (omega (arith, are.0)),
+    ) refl
 
 -- an offset taken out of one run is taken out of all
 pub TakesOut-splice : (o least count : ℕ) (i : ℕ) (d : ℕ × ℕ) (others runs : List (ℕ × ℕ))
@@ -392,14 +398,17 @@ module _ (runs : List (ℕ × ℕ)) (i o : ℕ) (run : ℕ × ℕ) (are : AreRun
       rw (new_is, splice-two i (run.0, o - run.0) (o + 1, run.1 - (o - run.0) - 1) runs at.within)
       (cut-to ((run.0, o - run.0) ∷ (o + 1, run.1 - (o - run.0) - 1) ∷ [])
       (ap (λ (l : List ℕ). range_with_len run.0 (o - run.0) ++ l)
-      (append-nil (range_with_len (o + 1) (run.1 - (o - run.0) - 1))))
-      (omega arith, omega (arith, before), omega (arith, run-low, run-high),
-      (omega (arith, run-low), omega (arith, after), omega (arith, run-low, run-high), tt)))
+      (append-nil (range_with_len (o + 1) (run.1 - (o - run.0) - 1)))) (
+        omega arith,
+        omega (arith, before),
+        omega (arith, run-low, run-high),
+        (omega (arith, run-low), omega (arith, after), omega (arith, run-low, run-high), tt),
+      ))
 
   -- a run that is cut in two has room for one more
   pub cut-room : (o - run.0 ≡ 0 → ⊥) → (run.1 - (o - run.0) - 1 ≡ 0 → ⊥)
       → length runs + 2 ≤ length (offsets_in runs)
   cut-room before after =
       let all = subst (λ (r : ℕ × ℕ). length runs + r.1 ≤ length (offsets_in runs) + 1) (sym is)
-          (length-runs_at 0 (2 ^ 63) runs i run are at.within) in
+      (length-runs_at 0 (2 ^ 63) runs i run are at.within) in
       omega (arith, all, before, after)

@@ -1,18 +1,18 @@
 -- What the fields of a state say of each other, when an offset comes or is completed.
-use Rattle.std.proofs.Common.{◌≡◌, ℕ, zero, suc, ◌+◌, ◌-◌, ◌^◌, ◌<◌, ◌≤◌, max, min, Bool, true, false, not, ◌||◌, cond, eqb, ltb, List, [], ◌∷◌, ◌++◌, length, take, drop, map, filter, Option, Some, None, IfSome, refl, sym, ap, subst, ◌∙◌, arith, inl, inr}
+use Rattle.std.proofs.Common.{◌≡◌, ℕ, zero, suc, ◌+◌, ◌-◌, ◌^◌, ◌<◌, ◌≤◌, max, min, Bool, true, false, not, ◌||◌, cond, eqb, ltb, List, [], ◌∷◌, ◌++◌, length, filter, Option, Some, None, IfSome, refl, sym, ap, subst, ◌∙◌, arith, inl, inr}
 use Rattle.std.specs.List.{AllByRecursion, list_any, range_with_len, slice_get}
 use Rattle.std.specs.Option.{option_map_or, unwrap_or}
-use Rattle.std.proofs.lemmas.Bool.{cases_Bool, cases_lt, cases_eq, eq-eqb, ne_eqb, lt-ltb, le-ltb}
-use Rattle.std.proofs.lemmas.List.{append_assoc, append-nil, length-append}
+use Rattle.std.proofs.lemmas.Bool.{cases_Bool, cases_lt, eq-eqb, ne_eqb, lt-ltb, le-ltb}
+use Rattle.std.proofs.lemmas.List.{append-nil, length-append}
 use Rattle.std.proofs.lemmas.List.Elements.{filter-append}
 use Rattle.std.proofs.lemmas.List.Folds.{list_any-append}
 use Rattle.pc_model.specs.Bits.{AreRuns, add_run}
 use Rattle.pc_model.proofs.BitsLemmas.{AreRuns-more, AreRuns-add_run}
 use Rattle.pc_model.specs.Numbers.{least_of}
-use Rattle.pc_model.specs.Marks.{Mark, incomplete_offsets, end_at, position_at}
+use Rattle.pc_model.specs.Marks.{Mark, end_at, position_at}
 use Rattle.pc_partition.specs.Runs.{TakesOut, offsets_in, without}
 use Rattle.pc_partition.specs.Window.{IsState, StandsFor, Window}
-use Rattle.pc_partition.proofs.RunsLemmas.{is_in-above, list_any-offsets_in, length-offsets_in, length-runs, offsets_in-add_run}
+use Rattle.pc_partition.proofs.RunsLemmas.{is_in-above, list_any-offsets_in, offsets_in-add_run}
 
 -- ---- runs
 
@@ -35,8 +35,10 @@ pub filter-runs : (p least count : ℕ) (runs : List (ℕ × ℕ)) → AreRuns l
 filter-runs p least count [] are le = refl
 filter-runs p least count (run ∷ runs) are le =
     filter-append (λ o. ltb o p) (range_with_len run.0 run.1) (offsets_in runs)
-    ∙ rw (filter-range p run.0 run.1 (omega (arith, are.2, le)),
-    filter-runs p (run.0 + run.1 + 1) count runs are.3 le) refl
+    ∙ rw (
+      filter-range p run.0 run.1 (omega (arith, are.2, le)),
+      filter-runs p (run.0 + run.1 + 1) count runs are.3 le,
+    ) refl
 
 -- ---- the position
 
@@ -212,7 +214,9 @@ length-without : (o : ℕ) (xs : List ℕ) → length (without o xs) ≤ length 
 length-without o [] = omega arith
 length-without o (x ∷ xs) = let ih = length-without o xs in
     elim (eqb x o) as (λ b. length (cond (not b) (x ∷ without o xs) (without o xs)) ≤ suc (length xs)) [
-      true ↦ omega (arith, ih) | false ↦ omega (arith, ih) ]
+      | true ↦ omega (arith, ih)
+      | false ↦ omega (arith, ih)
+    ]
 
 any-apart : (o : ℕ) (xs : List ℕ) → without o xs ≡ xs → list_any (λ x. eqb x o) xs ≡ false
 any-apart o [] apart = refl
@@ -222,7 +226,8 @@ any-apart o (x ∷ xs) apart = elim (cases_Bool (eqb x o)) [
       let same = ap (λ (l : List ℕ). length l) (rw t at apart) in
       absurd (omega (arith, less, same))
   | inr f ↦ let rest : x ∷ without o xs ≡ x ∷ xs = rw f at apart in
-      rw f (any-apart o xs (cc rest)) ]
+      rw f (any-apart o xs (cc rest))
+]
 
 -- the others are those without it
 pub TakesOut-without : (o : ℕ) (old new : List ℕ) → TakesOut o old new → new ≡ without o old
@@ -246,8 +251,10 @@ count-taken o p front back =
     let c = length-append (filter (λ x. ltb x p) front) (filter (λ x. ltb x p) (o ∷ back)) in
     let d = length-append (filter (λ x. ltb x p) front) (filter (λ x. ltb x p) back) in
     a ∙ c ∙ (elim (ltb o p) as (λ t. length (filter (λ x. ltb x p) front) + length (cond t (o ∷ filter (λ x. ltb x p) back) (filter (λ x. ltb x p) back))
-        ≡ length (filter (λ x. ltb x p) (front ++ back)) + cond t 1 0) [
-      true ↦ omega (arith, b, d) | false ↦ omega (arith, b, d) ])
+    ≡ length (filter (λ x. ltb x p) (front ++ back)) + cond t 1 0) [
+      | true ↦ omega (arith, b, d)
+      | false ↦ omega (arith, b, d)
+    ])
 
 -- how many open ones are left
 pub TakesOut-count : (o p : ℕ) (old new : List ℕ) → TakesOut o old new
@@ -289,7 +296,8 @@ pub IsState-taken : (runs new : List (ℕ × ℕ)) (high : Option ℕ) (after po
 IsState-taken runs new high after polled_to pending left capacity o pending' left' capacity' is has takes are more fewer less =
     let low : o < after = elim (cases_lt o after) [
       | inl lt ↦ lt
-      | inr ge ↦ let none = list_any-offsets_in o runs ∙ is_in-above o 0 after runs is.in_order ge in cc ] in
+      | inr ge ↦ let none = list_any-offsets_in o runs ∙ is_in-above o 0 after runs is.in_order ge in cc
+    ] in
     let top = high-taken o after high (offsets_in runs) (offsets_in new) takes low is.high_below is.high_apart in
     let count = TakesOut-count o polled_to (offsets_in runs) (offsets_in new) takes in
     let len = TakesOut-length o (offsets_in runs) (offsets_in new) takes in
@@ -341,7 +349,6 @@ pub pending-some : (o polled_to pending : ℕ) (old new : List ℕ) → TakesOut
 pending-some o polled_to pending old new takes is polled =
     let count = rw (lt-ltb o polled_to polled) at (TakesOut-count o polled_to old new takes) in omega (arith, count, is)
 
-
 -- ---- the start
 
 pub IsState-start : (b capacity : ℕ) → b < 2 ^ 63 → IsState [] None b b 0 0 capacity
@@ -355,3 +362,17 @@ IsState-start b capacity small = record {
   left_is = refl;
   room = omega arith;
 }
+
+-- ---- the least, read at the first run
+
+pub least-first_run : (after : ℕ) (runs : List (ℕ × ℕ)) (run : ℕ × ℕ) → AreRuns 0 after runs
+    → slice_get runs 0 ≡ Some run → run.0 ≡ unwrap_or (least_of (offsets_in runs)) after
+least-first_run after [] run are first = cc
+least-first_run after (one ∷ runs) run are first =
+    let same : one ≡ run = cc in
+    ap (λ (r : ℕ × ℕ). r.0) (sym same) ∙ sym (ap (λ o. unwrap_or o after) (least-runs 0 after one runs are))
+
+pub least-no_run : (after : ℕ) (runs : List (ℕ × ℕ)) → slice_get runs 0 ≡ None
+    → after ≡ unwrap_or (least_of (offsets_in runs)) after
+least-no_run after [] first = refl
+least-no_run after (one ∷ runs) first = cc

@@ -1,15 +1,14 @@
 -- What a window stands for, and what a poll and a success make of that.
 use Rattle.std.proofs.Common.{◌≡◌, ℕ, zero, suc, ◌+◌, ◌-◌, ◌^◌, ◌<◌, ◌≤◌, max, Bool, true, false, not, ◌||◌, cond, eqb, ltb, List, [], ◌∷◌, ◌++◌, length, get_or, take, drop, map, filter, Option, Some, None, refl, sym, ap, subst, ◌∙◌, arith, inl, inr, add-one, add-zero}
 use Rattle.std.specs.List.{list_any, slice_get}
-use Rattle.std.specs.Option.{option_map_or, unwrap_or}
+use Rattle.std.specs.Option.{option_map_or}
 use Rattle.std.proofs.lemmas.Bool.{cases_Bool, cases_lt, cases_eq, eq-eqb, eqb-true, ne_eqb, lt-ltb, le-ltb}
-use Rattle.std.proofs.lemmas.Bool.Decides.{nat_tests}
 use Rattle.std.proofs.lemmas.List.{append_assoc, append-nil, length-append, map-append, take_more}
 use Rattle.std.proofs.Math.Seq.{drop-cons}
 use Rattle.std.proofs.lemmas.List.Elements.{filter-append}
 use Rattle.std.proofs.lemmas.Option.{same_Some}
-use Rattle.pc_model.specs.Numbers.{least_of, greatest_of}
-use Rattle.pc_model.specs.Marks.{Mark, complete_offsets, offsets_of, incomplete_offsets, high_at, end_at, position_at}
+use Rattle.pc_model.specs.Numbers.{greatest_of}
+use Rattle.pc_model.specs.Marks.{Mark, complete_offsets, offsets_of, incomplete_offsets, high_at, end_at}
 use Rattle.pc_model.specs.OneMore.{with_complete}
 use Rattle.pc_partition.specs.Runs.{without}
 use Rattle.pc_partition.specs.Window.{AreNext, RisesFrom, StandsFor, Window, inherit_window, marks_of_pairs, new_mark, open_polled, poll_all, poll_window, succeed_window, with_polled}
@@ -45,7 +44,7 @@ greatest-after o (p ∷ os) rises =
     let ih = greatest-after p os rises.2 in
     let up = after_last-le (p + 1) os rises.2 in
     let most : max o (option_map_or (max p) (greatest_of os) p) ≡ option_map_or (max p) (greatest_of os) p =
-        omega (arith, ih, up, rises.0) in
+    omega (arith, ih, up, rises.0) in
     ap (λ n. n + 1) most ∙ ih
 
 pub end_at-rises : (b : ℕ) (marks : List Mark) → RisesFrom b (offsets_of marks)
@@ -75,9 +74,10 @@ greatest-complete b o (m ∷ marks) rises above =
     let le = after_last-le (m.offset + 1) (offsets_of marks) rises.2 in
     let most : max m.offset o ≡ o = omega (arith, le, above) in
     elim m.is_complete as (λ c. greatest_of (offsets_of (cond c (m ∷ filter (λ n. n.is_complete) marks)
-        (filter (λ n. n.is_complete) marks)) ++ o ∷ []) ≡ Some o) [
-      true ↦ ap (λ g. Some (option_map_or (max m.offset) g m.offset)) ih ∙ ap Some most
-    | false ↦ ih ]
+    (filter (λ n. n.is_complete) marks)) ++ o ∷ []) ≡ Some o) [
+      | true ↦ ap (λ g. Some (option_map_or (max m.offset) g m.offset)) ih ∙ ap Some most
+      | false ↦ ih
+    ]
 
 -- ---- an assignment
 
@@ -95,19 +95,21 @@ StandsFor-inherit w b marks o c is above small =
     let from : after_last b (offsets_of marks) ≤ o = omega (arith, is.after, last, above) in
     let offsets = offsets_of-append marks (record { offset = o; is_complete = c } ∷ []) in
     let rises : RisesFrom b (offsets_of (marks ++ record { offset = o; is_complete = c } ∷ [])) =
-        subst (RisesFrom b) (sym offsets) (RisesFrom-append b (offsets_of marks) (o ∷ []) is.rises
-        (from, small, omega (arith, small))) in
+    subst (RisesFrom b) (sym offsets) (RisesFrom-append b (offsets_of marks) (o ∷ []) is.rises
+    (from, small, omega (arith, small))) in
     record {
       rises = rises;
       polled = omega arith;
       incomplete = elim c as (λ c. cond c w.incomplete (w.incomplete ++ o ∷ [])
           ≡ incomplete_offsets (marks ++ record { offset = o; is_complete = c } ∷ [])) [
-          true ↦ is.incomplete ∙ sym (append-nil (incomplete_offsets marks)) ∙ sym (incomplete-append marks (record { offset = o; is_complete = true } ∷ []))
-        | false ↦ ap (λ l. l ++ o ∷ []) is.incomplete ∙ sym (incomplete-append marks (record { offset = o; is_complete = false } ∷ [])) ];
+            | true ↦ is.incomplete ∙ sym (append-nil (incomplete_offsets marks)) ∙ sym (incomplete-append marks (record { offset = o; is_complete = true } ∷ []))
+            | false ↦ ap (λ l. l ++ o ∷ []) is.incomplete ∙ sym (incomplete-append marks (record { offset = o; is_complete = false } ∷ []))
+          ];
       high = elim c as (λ c. cond c (Some o) w.high
           ≡ greatest_of (complete_offsets (marks ++ record { offset = o; is_complete = c } ∷ []))) [
-          true ↦ sym (greatest-complete b o marks is.rises from) ∙ ap greatest_of (sym (complete-append marks (record { offset = o; is_complete = true } ∷ [])))
-        | false ↦ is.high ∙ ap greatest_of (sym (append-nil (complete_offsets marks)) ∙ sym (complete-append marks (record { offset = o; is_complete = false } ∷ []))) ];
+            | true ↦ sym (greatest-complete b o marks is.rises from) ∙ ap greatest_of (sym (complete-append marks (record { offset = o; is_complete = true } ∷ [])))
+            | false ↦ is.high ∙ ap greatest_of (sym (append-nil (complete_offsets marks)) ∙ sym (complete-append marks (record { offset = o; is_complete = false } ∷ [])))
+          ];
       after = sym (end_at-rises b _ rises ∙ ap (after_last b) offsets ∙ after_last-append b (offsets_of marks) (o ∷ []));
       polled_to = is.polled_to;
     }
@@ -149,9 +151,10 @@ filter-below b p [] rises le = refl
 filter-below b p (m ∷ marks) rises le =
     let ih = filter-below (m.offset + 1) p marks rises.2 (omega (arith, rises.0)) in
     elim m.is_complete as (λ c. filter (λ o. ltb o p) (offsets_of (cond (not c) (m ∷ filter (λ n. not n.is_complete) marks)
-        (filter (λ n. not n.is_complete) marks))) ≡ []) [
-      true ↦ ih
-    | false ↦ rw (le-ltb m.offset p (omega (arith, rises.0))) ih ]
+    (filter (λ n. not n.is_complete) marks))) ≡ []) [
+      | true ↦ ih
+      | false ↦ rw (le-ltb m.offset p (omega (arith, rises.0))) ih
+    ]
 
 any-below : (b o : ℕ) (marks : List Mark) → RisesFrom b (offsets_of marks) → o < b
     → list_any (λ x. eqb x o) (incomplete_offsets marks) ≡ false
@@ -159,9 +162,10 @@ any-below b o [] rises le = refl
 any-below b o (m ∷ marks) rises le =
     let ih = any-below (m.offset + 1) o marks rises.2 (omega (arith, rises.0)) in
     elim m.is_complete as (λ c. list_any (λ x. eqb x o) (offsets_of (cond (not c) (m ∷ filter (λ n. not n.is_complete) marks)
-        (filter (λ n. not n.is_complete) marks))) ≡ false) [
-      true ↦ ih
-    | false ↦ rw (ne_eqb m.offset o (λ (e : m.offset ≡ o). omega (arith, rises.0, e))) ih ]
+    (filter (λ n. not n.is_complete) marks))) ≡ false) [
+      | true ↦ ih
+      | false ↦ rw (ne_eqb m.offset o (λ (e : m.offset ≡ o). omega (arith, rises.0, e))) ih
+    ]
 
 -- of the first marks, the incomplete offsets are those below where they end
 filter-take : (b n : ℕ) (marks : List Mark) → RisesFrom b (offsets_of marks)
@@ -172,10 +176,11 @@ filter-take b (suc n) (m ∷ marks) rises =
     let ih = filter-take (m.offset + 1) n marks rises.2 in
     let le = after_last-le (m.offset + 1) (offsets_of (take n marks)) (RisesFrom-take (m.offset + 1) n marks rises.2) in
     elim m.is_complete as (λ c. filter (λ o. ltb o (after_last (m.offset + 1) (offsets_of (take n marks))))
-        (offsets_of (cond (not c) (m ∷ filter (λ x. not x.is_complete) marks) (filter (λ x. not x.is_complete) marks)))
-        ≡ offsets_of (cond (not c) (m ∷ filter (λ x. not x.is_complete) (take n marks)) (filter (λ x. not x.is_complete) (take n marks)))) [
-      true ↦ ih
-    | false ↦ rw (lt-ltb m.offset (after_last (m.offset + 1) (offsets_of (take n marks))) (omega (arith, le))) (ap (λ (l : List ℕ). m.offset ∷ l) ih) ]
+    (offsets_of (cond (not c) (m ∷ filter (λ x. not x.is_complete) marks) (filter (λ x. not x.is_complete) marks)))
+    ≡ offsets_of (cond (not c) (m ∷ filter (λ x. not x.is_complete) (take n marks)) (filter (λ x. not x.is_complete) (take n marks)))) [
+      | true ↦ ih
+      | false ↦ rw (lt-ltb m.offset (after_last (m.offset + 1) (offsets_of (take n marks))) (omega (arith, le))) (ap (λ (l : List ℕ). m.offset ∷ l) ih)
+    ]
 
 pub open_polled-is : (w : Window) (b n : ℕ) (marks : List Mark) → StandsFor w b n marks
     → length (filter (λ o. ltb o w.polled_to) w.incomplete) ≡ length (incomplete_offsets (take n marks))
@@ -201,22 +206,27 @@ count-next b zero o (m ∷ marks) rises is =
     let low = filter-below (m.offset + 1) b marks rises.2 (omega (arith, rises.0)) in
     let apart = any-below (m.offset + 1) m.offset marks rises.2 (omega arith) in
     rw (← at) (elim m.is_complete as (λ c. length (filter (λ x. ltb x (m.offset + 1))
-        (offsets_of (cond (not c) (m ∷ filter (λ x. not x.is_complete) marks) (filter (λ x. not x.is_complete) marks))))
-        ≡ length (filter (λ x. ltb x b) (offsets_of (cond (not c) (m ∷ filter (λ x. not x.is_complete) marks) (filter (λ x. not x.is_complete) marks))))
-        + cond (list_any (λ x. eqb x m.offset) (offsets_of (cond (not c) (m ∷ filter (λ x. not x.is_complete) marks) (filter (λ x. not x.is_complete) marks)))) 1 0) [
-      true ↦ rw (none, low, apart) refl
-    | false ↦ rw (lt-ltb m.offset (m.offset + 1) (omega arith), le-ltb m.offset b rises.0, eq-eqb m.offset m.offset refl, none, low) refl ])
+    (offsets_of (cond (not c) (m ∷ filter (λ x. not x.is_complete) marks) (filter (λ x. not x.is_complete) marks))))
+    ≡ length (filter (λ x. ltb x b) (offsets_of (cond (not c) (m ∷ filter (λ x. not x.is_complete) marks) (filter (λ x. not x.is_complete) marks))))
+    + cond (list_any (λ x. eqb x m.offset) (offsets_of (cond (not c) (m ∷ filter (λ x. not x.is_complete) marks) (filter (λ x. not x.is_complete) marks)))) 1 0) [
+      | true ↦ rw (none, low, apart) refl
+      | false ↦ rw (lt-ltb m.offset (m.offset + 1) (omega arith), le-ltb m.offset b rises.0, eq-eqb m.offset m.offset refl, none, low) refl
+    ])
 count-next b (suc n) o (m ∷ marks) rises is =
     let ih = count-next (m.offset + 1) n o marks rises.2 is in
     let from = slice-from (m.offset + 1) n o (offsets_of marks) rises.2 is in
     let le = after_last-le (m.offset + 1) (offsets_of (take n marks)) (RisesFrom-take (m.offset + 1) n marks rises.2) in
     elim m.is_complete as (λ c. length (filter (λ x. ltb x (o + 1))
-        (offsets_of (cond (not c) (m ∷ filter (λ x. not x.is_complete) marks) (filter (λ x. not x.is_complete) marks))))
-        ≡ length (filter (λ x. ltb x (after_last (m.offset + 1) (offsets_of (take n marks)))) (offsets_of (cond (not c) (m ∷ filter (λ x. not x.is_complete) marks) (filter (λ x. not x.is_complete) marks))))
-        + cond (list_any (λ x. eqb x o) (offsets_of (cond (not c) (m ∷ filter (λ x. not x.is_complete) marks) (filter (λ x. not x.is_complete) marks)))) 1 0) [
-      true ↦ ih
-    | false ↦ rw (lt-ltb m.offset (o + 1) (omega (arith, from)), lt-ltb m.offset (after_last (m.offset + 1) (offsets_of (take n marks))) (omega (arith, le)),
-        ne_eqb m.offset o (λ (e : m.offset ≡ o). omega (arith, from, e))) (omega (arith, ih)) ]
+    (offsets_of (cond (not c) (m ∷ filter (λ x. not x.is_complete) marks) (filter (λ x. not x.is_complete) marks))))
+    ≡ length (filter (λ x. ltb x (after_last (m.offset + 1) (offsets_of (take n marks)))) (offsets_of (cond (not c) (m ∷ filter (λ x. not x.is_complete) marks) (filter (λ x. not x.is_complete) marks))))
+    + cond (list_any (λ x. eqb x o) (offsets_of (cond (not c) (m ∷ filter (λ x. not x.is_complete) marks) (filter (λ x. not x.is_complete) marks)))) 1 0) [
+      | true ↦ ih
+      | false ↦ rw (
+        lt-ltb m.offset (o + 1) (omega (arith, from)),
+        lt-ltb m.offset (after_last (m.offset + 1) (offsets_of (take n marks))) (omega (arith, le)),
+        ne_eqb m.offset o (λ (e : m.offset ≡ o). omega (arith, from, e)),
+      ) (omega (arith, ih))
+    ]
 
 -- ---- one offset polled
 
@@ -293,7 +303,7 @@ new n o os marks all =
     let len = length-append marks (new_mark o ∷ []) in
     let more : length (marks ++ new_mark o ∷ []) - (n + 1) ≡ 0 = omega (arith, len) in
     let past : length (offsets_of (marks ++ new_mark o ∷ [])) ≤ n + 1 =
-        let l = length-offsets (marks ++ new_mark o ∷ []) in omega (arith, l, len) in
+    let l = length-offsets (marks ++ new_mark o ∷ []) in omega (arith, l, len) in
     record {
       all = all;
       next = rw more (sym (take-nothing (length os) _ (drop-length (n + 1) (offsets_of (marks ++ new_mark o ∷ [])) past)));
@@ -330,11 +340,11 @@ new-poll w b n marks o is all follows small =
     let from : after_last b (offsets_of marks) ≤ o = omega (arith, is.after, last, to, follows) in
     let offsets = offsets_of-append marks (new_mark o ∷ []) in
     let rises : RisesFrom b (offsets_of (marks ++ new_mark o ∷ [])) =
-        subst (RisesFrom b) (sym offsets) (RisesFrom-append b (offsets_of marks) (o ∷ []) is.rises
-        (from, small, omega (arith, small))) in
+    subst (RisesFrom b) (sym offsets) (RisesFrom-append b (offsets_of marks) (o ∷ []) is.rises
+    (from, small, omega (arith, small))) in
     let len = length-append marks (new_mark o ∷ []) in
     let end : o + 1 ≡ end_at b (marks ++ new_mark o ∷ []) =
-        sym (end_at-rises b _ rises ∙ ap (after_last b) offsets ∙ after_last-append b (offsets_of marks) (o ∷ [])) in
+    sym (end_at-rises b _ rises ∙ ap (after_last b) offsets ∙ after_last-append b (offsets_of marks) (o ∷ [])) in
     record {
       rises = rises;
       polled = omega (arith, len, all);
@@ -392,12 +402,14 @@ incomplete-complete o [] = refl
 incomplete-complete o (m ∷ marks) =
     let ih = incomplete-complete o marks in
     elim m.is_complete as (λ c.
-        offsets_of (cond (not (eqb o m.offset || c)) (record { offset = m.offset; is_complete = eqb o m.offset || c } ∷ filter (λ x. not x.is_complete) (with_complete o marks)) (filter (λ x. not x.is_complete) (with_complete o marks)))
-        ≡ without o (offsets_of (cond (not c) (m ∷ filter (λ x. not x.is_complete) marks) (filter (λ x. not x.is_complete) marks)))) [
-      true ↦ elim (cases_Bool (eqb o m.offset)) [ | inl t ↦ rw t ih | inr f ↦ rw f ih ]
-    | false ↦ elim (cases_Bool (eqb o m.offset)) [
+    offsets_of (cond (not (eqb o m.offset || c)) (record { offset = m.offset; is_complete = eqb o m.offset || c } ∷ filter (λ x. not x.is_complete) (with_complete o marks)) (filter (λ x. not x.is_complete) (with_complete o marks)))
+    ≡ without o (offsets_of (cond (not c) (m ∷ filter (λ x. not x.is_complete) marks) (filter (λ x. not x.is_complete) marks)))) [
+      | true ↦ elim (cases_Bool (eqb o m.offset)) [ inl t ↦ rw t ih | inr f ↦ rw f ih ]
+      | false ↦ elim (cases_Bool (eqb o m.offset)) [
         | inl t ↦ rw (same-test m.offset o, t) ih
-        | inr f ↦ rw (same-test m.offset o, f) (ap (λ (l : List ℕ). m.offset ∷ l) ih) ] ]
+        | inr f ↦ rw (same-test m.offset o, f) (ap (λ (l : List ℕ). m.offset ∷ l) ih)
+      ]
+    ]
 
 -- the greatest of these and of one more
 abbrev most : ℕ → Option ℕ → ℕ
@@ -419,15 +431,18 @@ most-complete o (m ∷ marks) =
     let G = greatest_of (complete_offsets marks) in
     let H = greatest_of (complete_offsets (with_complete o marks)) in
     elim m.is_complete as (λ c.
-        most o (greatest_of (offsets_of (cond (eqb o m.offset || c) (record { offset = m.offset; is_complete = eqb o m.offset || c } ∷ filter (λ x. x.is_complete) (with_complete o marks)) (filter (λ x. x.is_complete) (with_complete o marks)))))
-        ≡ most o (greatest_of (offsets_of (cond c (m ∷ filter (λ x. x.is_complete) marks) (filter (λ x. x.is_complete) marks))))) [
-      true ↦ elim (cases_Bool (eqb o m.offset)) [
+    most o (greatest_of (offsets_of (cond (eqb o m.offset || c) (record { offset = m.offset; is_complete = eqb o m.offset || c } ∷ filter (λ x. x.is_complete) (with_complete o marks)) (filter (λ x. x.is_complete) (with_complete o marks)))))
+    ≡ most o (greatest_of (offsets_of (cond c (m ∷ filter (λ x. x.is_complete) marks) (filter (λ x. x.is_complete) marks))))) [
+      | true ↦ elim (cases_Bool (eqb o m.offset)) [
         | inl t ↦ rw t (most-swap o m.offset H ∙ ap (max m.offset) ih ∙ sym (most-swap o m.offset G))
-        | inr f ↦ rw f (most-swap o m.offset H ∙ ap (max m.offset) ih ∙ sym (most-swap o m.offset G)) ]
-    | false ↦ elim (cases_Bool (eqb o m.offset)) [
+        | inr f ↦ rw f (most-swap o m.offset H ∙ ap (max m.offset) ih ∙ sym (most-swap o m.offset G))
+      ]
+      | false ↦ elim (cases_Bool (eqb o m.offset)) [
         | inl t ↦ let at : o ≡ m.offset = eqb-true o m.offset t in
             rw t (rw (← at) (most-twice o H ∙ ih))
-        | inr f ↦ rw f ih ] ]
+        | inr f ↦ rw f ih
+      ]
+    ]
 
 greatest-complete_one : (o : ℕ) (marks : List Mark) → list_any (λ x. eqb x o) (incomplete_offsets marks) ≡ true
     → greatest_of (complete_offsets (with_complete o marks)) ≡ Some (most o (greatest_of (complete_offsets marks)))
@@ -437,16 +452,19 @@ greatest-complete_one o (m ∷ marks) has =
     let H = greatest_of (complete_offsets (with_complete o marks)) in
     let all = most-complete o marks in
     (elim m.is_complete as (λ c. list_any (λ x. eqb x o) (offsets_of (cond (not c) (m ∷ filter (λ x. not x.is_complete) marks) (filter (λ x. not x.is_complete) marks))) ≡ true →
-        greatest_of (offsets_of (cond (eqb o m.offset || c) (record { offset = m.offset; is_complete = eqb o m.offset || c } ∷ filter (λ x. x.is_complete) (with_complete o marks)) (filter (λ x. x.is_complete) (with_complete o marks))))
-        ≡ Some (most o (greatest_of (offsets_of (cond c (m ∷ filter (λ x. x.is_complete) marks) (filter (λ x. x.is_complete) marks)))))) [
-      true ↦ λ h. let ih = greatest-complete_one o marks h in
+    greatest_of (offsets_of (cond (eqb o m.offset || c) (record { offset = m.offset; is_complete = eqb o m.offset || c } ∷ filter (λ x. x.is_complete) (with_complete o marks)) (filter (λ x. x.is_complete) (with_complete o marks))))
+    ≡ Some (most o (greatest_of (offsets_of (cond c (m ∷ filter (λ x. x.is_complete) marks) (filter (λ x. x.is_complete) marks)))))) [
+      | true ↦ λ h. let ih = greatest-complete_one o marks h in
           elim (cases_Bool (eqb o m.offset)) [
-          | inl t ↦ rw t (ap Some (ap (λ (g : Option ℕ). most m.offset g) ih ∙ sym (most-swap o m.offset G)))
-          | inr f ↦ rw f (ap Some (ap (λ (g : Option ℕ). most m.offset g) ih ∙ sym (most-swap o m.offset G))) ]
-    | false ↦ λ h. elim (cases_Bool (eqb o m.offset)) [
+            | inl t ↦ rw t (ap Some (ap (λ (g : Option ℕ). most m.offset g) ih ∙ sym (most-swap o m.offset G)))
+            | inr f ↦ rw f (ap Some (ap (λ (g : Option ℕ). most m.offset g) ih ∙ sym (most-swap o m.offset G)))
+          ]
+      | false ↦ λ h. elim (cases_Bool (eqb o m.offset)) [
         | inl t ↦ let at : o ≡ m.offset = eqb-true o m.offset t in
             rw t (rw (← at) (ap Some all))
-        | inr f ↦ rw f (greatest-complete_one o marks (rw (same-test m.offset o, f) at h)) ] ]) has
+        | inr f ↦ rw f (greatest-complete_one o marks (rw (same-test m.offset o, f) at h))
+      ]
+    ]) has
 
 pub StandsFor-succeed : (w : Window) (b n : ℕ) (marks : List Mark) (o : ℕ) → StandsFor w b n marks
     → list_any (λ x. eqb x o) w.incomplete ≡ true → StandsFor (succeed_window o w) b n (with_complete o marks)
@@ -502,7 +520,9 @@ length-filter-le : (p : ℕ → Bool) (xs : List ℕ) → length (filter p xs) �
 length-filter-le p [] = omega arith
 length-filter-le p (x ∷ xs) = let ih = length-filter-le p xs in
     elim (p x) as (λ b. length (cond b (x ∷ filter p xs) (filter p xs)) ≤ suc (length xs)) [
-      true ↦ omega (arith, ih) | false ↦ omega (arith, ih) ]
+      | true ↦ omega (arith, ih)
+      | false ↦ omega (arith, ih)
+    ]
 
 -- the first of the next ones is the next one
 next-one : (n o : ℕ) (os : List ℕ) (marks : List Mark) → AreNext n marks (o ∷ os) → AreNext n marks (o ∷ [])
@@ -547,7 +567,8 @@ IsPolled-one w b n marks o os is next follows small = elim (cases_lt n (length m
         next = rw same at.next;
         few = rw (lt-ltb o w.after below) (elim (cases_Bool (list_any (λ x. eqb x o) w.incomplete)) [
           | inl t ↦ let c = rw t at count in omega (arith, c)
-          | inr f ↦ let c = rw f at count in omega (arith, c) ]);
+          | inr f ↦ let c = rw f at count in omega (arith, c)
+        ]);
       }
   | inr more ↦
       let at = new n o os marks (omega (arith, more, is.polled)) in
@@ -586,11 +607,11 @@ pub IsInherited-one : (w : Window) (b i : ℕ) (pairs : List (ℕ × Bool)) (d :
 IsInherited-one w b i pairs d within is rises =
     let here : drop i pairs ≡ get_or pairs i d ∷ drop (suc i) pairs = drop-cons pairs i d within in
     let up : RisesFrom w.after (map (λ p. p.0) (get_or pairs i d ∷ drop (suc i) pairs)) =
-        subst (λ (ps : List (ℕ × Bool)). RisesFrom w.after (map (λ p. p.0) ps)) here rises in
+    subst (λ (ps : List (ℕ × Bool)). RisesFrom w.after (map (λ p. p.0) ps)) here rises in
     let more : marks_of_pairs (take (i + 1) pairs) ≡ marks_of_pairs (take i pairs)
-        ++ record { offset = (get_or pairs i d).0; is_complete = (get_or pairs i d).1 } ∷ [] =
-        ap marks_of_pairs (take_more pairs i d within)
-        ∙ map-append (λ (p : ℕ × Bool). record { offset = p.0; is_complete = p.1 }) (take i pairs) (get_or pairs i d ∷ []) in
+    ++ record { offset = (get_or pairs i d).0; is_complete = (get_or pairs i d).1 } ∷ [] =
+    ap marks_of_pairs (take_more pairs i d within)
+    ∙ map-append (λ (p : ℕ × Bool). record { offset = p.0; is_complete = p.1 }) (take i pairs) (get_or pairs i d ∷ []) in
     record {
       above = up.0;
       small = up.1;

@@ -1,5 +1,5 @@
 -- What is kept of a part, and of which marks that is said.
-use Rattle.std.specs.Prelude.{ℕ, ◌+◌, ◌-◌, ◌^◌, ◌≡◌, ◌<◌, ◌≤◌, ◌==◌, Bool, true, false, not, max, nat_lt, if◌then◌else◌, List, [], ◌∷◌, ◌++◌, map, filter, length, take, drop, Option, Some, None, IfSome}
+use Rattle.std.specs.Prelude.{ℕ, ◌+◌, ◌-◌, ◌^◌, ◌≡◌, ◌<◌, ◌≤◌, ◌==◌, Bool, false, max, nat_lt, if◌then◌else◌, List, [], ◌∷◌, ◌++◌, map, filter, length, take, drop, Option, Some, None, IfSome}
 use Rattle.std.specs.List.{list_any}
 use Rattle.std.specs.Option.{option_map_or}
 use Rattle.pc_model.specs.Bits.{AreRuns}
@@ -48,6 +48,11 @@ AreNext n marks offsets = take (length marks - n) offsets ≡ take (length offse
 -- the marks with the offsets that were not known
 abbrev pub with_polled : ℕ → List Mark → List ℕ → List Mark
 with_polled n marks offsets = marks ++ map new_mark (drop (length marks - n) offsets)
+
+-- bits, and nothing where there are none
+abbrev pub some_bits : List Bool → Option (List Bool)
+some_bits [] = None
+some_bits (bit ∷ bits) = Some (bit ∷ bits)
 
 -- ---- the state
 

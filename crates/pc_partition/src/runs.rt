@@ -1,9 +1,12 @@
 //! Runs of offsets in order, none empty and no two touching: the place and the length of each.
 
-ghost use Rattle.std.specs.Prelude.{◌≡◌, ℕ, ◌+◌, ◌^◌, ◌<◌, ◌≤◌, ◌==◌, true, length, vec_len, vec_capacity};
+ghost use Rattle.std.specs.Prelude.{◌≡◌, ℕ, ◌+◌, ◌-◌, ◌^◌, ◌<◌, ◌≤◌, ◌==◌, true, false, length, IfOk, vec_len, vec_capacity};
 ghost use Rattle.std.specs.List.{AllWithin, list_any};
-ghost use Rattle.pc_model.specs.Bits.{AreRuns, add_run};
+ghost use Rattle.pc_model.specs.Bits.{AreRuns, add_run, bits_between};
 ghost use Rattle.pc_partition.specs.Runs.{IsCut, TakesOut, offsets_in};
+
+use pc_model::Bits;
+use std::alloc::{AllocError, Global};
 
 /// How many of the runs begin at the offset or before it.
 pub fn count_upto(runs: &[(u64, u64)], offset: u64) -> usize
@@ -85,4 +88,29 @@ fn cut(runs: &mut Vec<(u64, u64)>, at: usize, offset: u64)
             unreachable!();
         };
     }
+}
+
+/// The bits from a position to an offset that is in no run: 0 in the runs, and 1 elsewhere.
+pub fn bits_upto(
+    alloc: Global,
+    runs: &[(u64, u64)],
+    position: u64,
+    high: u64,
+) -> Result<Bits, AllocError>
+    requires in_order { AreRuns position (2 ^ 63) runs.now }
+    requires upto { position ≤ high }
+    requires small { high < 2 ^ 63 - 1 }
+    requires apart { list_any (λ o. o == high) (offsets_in runs.now) ≡ false }
+    ensures { IfOk result (λ bits. bits ≡ bits_between position high (offsets_in runs.now)) }
+{
+    let below = &runs[..count_upto(runs, high)];
+    let mut bits = Bits::new(alloc);
+    let mut place = position;
+    for (start, size) in below {
+        bits.push(true, start - place)?;
+        bits.push(false, *size)?;
+        place = start + size;
+    }
+    bits.push(true, high + 1 - place)?;
+    Ok(bits)
 }

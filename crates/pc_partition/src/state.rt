@@ -4,12 +4,14 @@
 
 ghost use Rattle.std.specs.Prelude.{◌≡◌, ℕ, ◌+◌, ◌-◌, ◌^◌, ◌<◌, ◌≤◌, ◌==◌, [], ◌∷◌, not, true, max, List, map, take, length, IfOk, OnErr, OnOk};
 ghost use Rattle.std.specs.List.{list_any};
-ghost use Rattle.std.specs.Option.{option_map_or};
-ghost use Rattle.pc_model.specs.Marks.{Mark, high_at, incomplete_offsets, position_at};
+ghost use Rattle.std.specs.Option.{option_map_or, unwrap_or};
+ghost use Rattle.pc_model.specs.Numbers.{least_of};
+ghost use Rattle.pc_model.specs.Marks.{Mark, bits_at, high_at, incomplete_offsets, position_at};
 ghost use Rattle.pc_model.specs.OneMore.{with_complete};
-ghost use Rattle.pc_partition.specs.Window.{AreNext, RisesFrom, StandsFor, inherit_window, marks_of_pairs, open_polled, poll_window, succeed_window, with_polled};
+ghost use Rattle.pc_partition.specs.Window.{AreNext, RisesFrom, StandsFor, inherit_window, marks_of_pairs, open_polled, poll_window, some_bits, succeed_window, with_polled};
 
 use crate::runs;
+use pc_model::Bits;
 use std::alloc::{AllocError, Global};
 use std::marker::Model;
 
@@ -110,8 +112,10 @@ impl PartitionState {
 
     /// The least incomplete offset, or else the offset after the known ones.
     pub fn position(&self) -> u64
-        ensures { (begin n : ℕ) (marks : List Mark) → StandsFor self.now.window begin n marks
-            → result ≡ position_at begin marks }
+        ensures position { (begin n : ℕ) (marks : List Mark)
+            → StandsFor self.now.window begin n marks → result ≡ position_at begin marks }
+        ensures least { result
+            ≡ unwrap_or (least_of self.now.window.incomplete) self.now.window.after }
     {
         match self.runs.as_slice().first() {
             Some(run) => run.0,
@@ -141,6 +145,23 @@ impl PartitionState {
             → result ≡ length (incomplete_offsets (take n marks)) }
     {
         self.pending
+    }
+
+    /// The bits from the position to the greatest complete offset. None where that lies below the
+    /// position, or there is none.
+    pub fn bits(&self) -> Result<Option<Bits>, AllocError>
+        ensures { IfOk result (λ bits. (begin n : ℕ) (marks : List Mark)
+            → StandsFor self.now.window begin n marks → bits ≡ some_bits (bits_at begin marks)) }
+    {
+        let position = self.position();
+        match self.high {
+            Some(high) if position <= high => {
+                let alloc = *self.runs.allocator();
+                let bits = runs::bits_upto(alloc, self.runs.as_slice(), position, high)?;
+                Ok(Some(bits))
+            }
+            _ => Ok(None),
+        }
     }
 
     // Learns one more offset, which is above the known ones, while none was polled.

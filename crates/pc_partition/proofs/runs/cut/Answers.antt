@@ -1,5 +1,5 @@
 -- What is left of the run, before the offset and after it, takes its place.
-use Rattle.std.proofs.Common.{arith, length, refl, inl, inr}
+use Rattle.std.proofs.Common.{arith, refl, inl, inr}
 use Rattle.pc_partition.proofs.RunsLemmas.{cut-first, cut-last, cut-middle, cut-none, cut-room, run-high, run-small}
 use Rattle.pc_partition.proofs.runs.cut.Goals as goal
 
@@ -18,7 +18,7 @@ overflow_add-offset-else-after-eq0-2 c =
 pub unreachable-requires : goal.unreachable-requires
 unreachable-requires c =
     let room = cut-room _ _ _ c.index.result.now c.requires.in_order c.requires.at c.index.ensures
-        c.if-before-eq0-2.false c.if-after-eq0-2.false in
+    c.if-before-eq0-2.false c.if-after-eq0-2.false in
     let full = c.in_default.ensures.full in
     let len = c.args.runs.now.ok in
     omega (arith, room, full, len, c.requires.room)
@@ -62,4 +62,3 @@ pub returns-in-Ok-clause-in_order : goal.returns-in-Ok-clause-in_order
 returns-in-Ok-clause-in_order c = (cut-middle _ _ _ c.index.result.now c.requires.in_order c.requires.at
     c.index.ensures _ c.if-before-eq0-2.false
     c.if-after-eq0-2.false c.in-Ok.ensures.items).in_order
-

@@ -6,8 +6,8 @@ use Rattle.pc_partition.proofs.runs.take_out.Goals as goal
 pub overflow_sub-count : goal.overflow_sub-count
 overflow_sub-count c =
     let is : IsSearched c.args.runs.now.items c.args.offset c.count_upto-count.result = subst
-        (λ (runs : List (ℕ × ℕ)). IsSearched runs c.args.offset c.count_upto-count.result)
-        c.as_slice.ensures.value (record {
+    (λ (runs : List (ℕ × ℕ)). IsSearched runs c.args.offset c.count_upto-count.result)
+    c.as_slice.ensures.value (record {
       in_order = rw c.as_slice.ensures.value c.requires.in_order;
       within = c.count_upto-count.ensures.within;
       upto = c.count_upto-count.ensures.upto;
@@ -18,8 +18,8 @@ overflow_sub-count c =
 pub cut-requires-clause-at : goal.cut-requires-clause-at
 cut-requires-clause-at c =
     let is : IsSearched c.args.runs.now.items c.args.offset c.count_upto-count.result = subst
-        (λ (runs : List (ℕ × ℕ)). IsSearched runs c.args.offset c.count_upto-count.result)
-        c.as_slice.ensures.value (record {
+    (λ (runs : List (ℕ × ℕ)). IsSearched runs c.args.offset c.count_upto-count.result)
+    c.as_slice.ensures.value (record {
       in_order = rw c.as_slice.ensures.value c.requires.in_order;
       within = c.count_upto-count.ensures.within;
       upto = c.count_upto-count.ensures.upto;

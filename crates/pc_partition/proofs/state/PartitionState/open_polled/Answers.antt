@@ -1,5 +1,5 @@
 -- The polled offsets are those below where they end.
-use Rattle.std.proofs.Common.{sym, ap, ◌∙◌}
+use Rattle.std.proofs.Common.{ap, ◌∙◌}
 use Rattle.pc_partition.specs.Window.{PartitionView, open_polled}
 use Rattle.pc_partition.proofs.WindowLemmas.{open_polled-is}
 use Rattle.pc_partition.proofs.state.PartitionState.open_polled.Goals as goal

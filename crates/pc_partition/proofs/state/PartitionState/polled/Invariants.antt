@@ -6,5 +6,5 @@ use Rattle.pc_partition.proofs.state.PartitionState.polled.Given as goal
 abbrev pub invariant-loop-offset : goal.invariant-loop-offset
 invariant-loop-offset l = record {
   upto : IsPolledUpto l.fn.self.window l.self.window l.offset-index l.offsets;
-  room : length l.offsets ≤ l.self.room + l.offset-index
+  room : length l.offsets ≤ l.self.room + l.offset-index;
 }

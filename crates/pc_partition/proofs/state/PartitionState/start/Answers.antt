@@ -1,8 +1,7 @@
 -- The state of no offsets, and of one more.
-use Rattle.std.proofs.Common.{◌+◌, ◌≤◌, ap, false, length, arith, refl, sym}
-use Rattle.pc_partition.specs.Window.{IsState, Window}
+use Rattle.std.proofs.Common.{false, arith}
 use Rattle.pc_partition.proofs.StateLemmas.{IsState-start}
-use Rattle.pc_partition.proofs.WindowLemmas.{IsInherited-one, StandsFor-start, after_last-small, begin-small}
+use Rattle.pc_partition.proofs.WindowLemmas.{IsInherited-one, StandsFor-start, begin-small}
 use Rattle.pc_partition.proofs.state.PartitionState.start.Goals as goal
 
 pub invariant_of-state : goal.invariant_of-state
@@ -19,7 +18,7 @@ loop-offset-init c = record {
 pub loop-offset-preserved : goal.loop-offset-preserved
 loop-offset-preserved c =
     let is = IsInherited-one c.loop-offset.state.window c.args.begin c.loop-offset.offset-index c.args.inherited.now (0, false)
-        c.loop-offset-test.true c.loop-offset.invariant.stands c.loop-offset.invariant.rises in
+    c.loop-offset-test.true c.loop-offset.invariant.stands c.loop-offset.invariant.rises in
     record {
       stands = rw c.inherit.ensures.window is.stands;
       rises = rw c.inherit.ensures.window is.rises;

@@ -7,5 +7,5 @@ abbrev pub invariant-loop-offset : goal.invariant-loop-offset
 invariant-loop-offset l = record {
   stands : StandsFor l.state.window l.fn.begin 0 (marks_of_pairs (take l.offset-index l.inherited));
   rises : RisesFrom l.state.window.after (map (λ pair. pair.0) (drop l.offset-index l.inherited));
-  room : length l.inherited ≤ l.state.room + l.offset-index
+  room : length l.inherited ≤ l.state.room + l.offset-index;
 }

@@ -1,6 +1,4 @@
 -- The window without the offset stands for the marks in which it is complete.
-use Rattle.std.proofs.Common.{sym, subst}
-use Rattle.pc_partition.specs.Window.{StandsFor, Window}
 use Rattle.pc_partition.proofs.WindowLemmas.{StandsFor-succeed}
 use Rattle.pc_partition.proofs.state.PartitionState.succeed.Goals as goal
 
