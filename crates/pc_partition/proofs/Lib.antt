@@ -1,0 +1,4 @@
+pub mod RunsLemmas
+pub mod WindowLemmas
+pub mod StateLemmas
+pub mod BitsUpto

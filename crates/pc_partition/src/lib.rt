@@ -1,0 +1,11 @@
+//! The completion state of a held part: its position, its greatest complete offset, and the bits
+//! between them.
+#![tactic(auto)]
+
+mod runs;
+mod state;
+
+pub use state::PartitionState;
+
+#[cfg(test)]
+mod tests;

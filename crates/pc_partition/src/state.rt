@@ -1,0 +1,228 @@
+//! The state of a held part. Clauses see which known offsets are incomplete, the greatest complete
+//! one, and where the known and the polled ones end; `StandsFor` says of which begin and marks, of
+//! which the first n were polled, that is the state.
+
+ghost use Rattle.std.specs.Prelude.{◌≡◌, ℕ, ◌+◌, ◌-◌, ◌^◌, ◌<◌, ◌≤◌, ◌==◌, [], ◌∷◌, not, true, max, List, map, take, length, IfOk, OnErr, OnOk};
+ghost use Rattle.std.specs.List.{list_any};
+ghost use Rattle.std.specs.Option.{option_map_or, unwrap_or};
+ghost use Rattle.pc_model.specs.Numbers.{least_of};
+ghost use Rattle.pc_model.specs.Marks.{Mark, bits_at, high_at, incomplete_offsets, position_at};
+ghost use Rattle.pc_model.specs.OneMore.{with_complete};
+ghost use Rattle.pc_partition.specs.Window.{AreNext, RisesFrom, StandsFor, inherit_window, marks_of_pairs, open_polled, poll_window, some_bits, succeed_window, with_polled};
+
+use crate::runs;
+use pc_model::Bits;
+use std::alloc::{AllocError, Global};
+use std::marker::Model;
+
+/// Which known offsets of a part are complete. The memory goes by the number of incomplete ones.
+#[derive(Debug, Drop)]
+pub struct PartitionState {
+    // The runs of incomplete offsets, with a place for each incomplete offset. The window begins
+    // with the first of them.
+    runs: Vec<(u64, u64)>,
+    // The greatest complete offset.
+    high: Option<u64>,
+    // The offset after the known ones.
+    after: u64,
+    // The offset after the polled ones.
+    polled_to: u64,
+    // How many polled offsets are incomplete.
+    pending: u32,
+    // How many offsets are incomplete.
+    left: usize,
+}
+
+impl Model for PartitionState {
+    ghost use Rattle.std.specs.Prelude.{◌-◌, vec_capacity};
+    ghost use Rattle.pc_partition.specs.Runs.{offsets_in};
+    ghost use Rattle.pc_partition.specs.Window.{IsState, PartitionView};
+
+    ghost Value = { PartitionView };
+
+    ghost view = { λ s. record {
+      window = record {
+        incomplete = offsets_in s.runs.items;
+        high = s.high;
+        after = s.after;
+        polled_to = s.polled_to;
+      };
+      room = vec_capacity s.runs - s.left;
+    } };
+
+    ghost invariant = { λ s. IsState s.runs.items s.high s.after s.polled_to s.pending s.left
+        (vec_capacity s.runs) };
+}
+
+impl PartitionState {
+    /// The state at an assignment: of the offsets of which its map says something, whether each is
+    /// complete. None was polled yet.
+    pub fn start(
+        alloc: Global,
+        begin: u64,
+        inherited: &[(u64, bool)],
+    ) -> Result<PartitionState, AllocError>
+        requires { RisesFrom begin (map (λ pair. pair.0) inherited.now) }
+        ensures { IfOk result
+            (λ s. StandsFor s.window begin 0 (marks_of_pairs inherited.now)) }
+    {
+        let mut state = PartitionState {
+            runs: Vec::with_capacity(alloc, inherited.len())?,
+            high: None,
+            after: begin,
+            polled_to: begin,
+            pending: 0,
+            left: 0,
+        };
+        for (offset, is_complete) in inherited {
+            state.inherit(*offset, *is_complete);
+        }
+        Ok(state)
+    }
+
+    /// Polls the offsets, which are new where they are not known. Where memory runs out, the same is
+    /// known and polled as before.
+    pub fn polled(&mut self, offsets: &[u64]) -> Result<(), AllocError>
+        requires rises { RisesFrom self.old.window.polled_to offsets.now }
+        requires next { (begin n : ℕ) × (marks : List Mark)
+            × StandsFor self.old.window begin n marks × AreNext n marks offsets.now }
+        requires few { open_polled self.old.window + length offsets.now < 2 ^ 32 }
+        ensures polled { OnOk result ((begin n : ℕ) (marks : List Mark)
+            → StandsFor self.old.window begin n marks → AreNext n marks offsets.now
+            → StandsFor self.new.window begin (n + length offsets.now)
+            (with_polled n marks offsets.now)) }
+        ensures stays { OnErr result (self.new.window ≡ self.old.window) }
+    {
+        let room = offsets.len() + (self.left - self.runs.as_slice().len());
+        self.runs.reserve(room)?;
+        for offset in offsets {
+            self.poll(*offset);
+        }
+        Ok(())
+    }
+
+    /// Completes an offset that is known and incomplete. Takes no memory.
+    pub fn succeed(&mut self, offset: u64)
+        requires { list_any (λ o. o == offset) self.old.window.incomplete ≡ true }
+        ensures { (begin n : ℕ) (marks : List Mark) → StandsFor self.old.window begin n marks
+            → StandsFor self.new.window begin n (with_complete offset marks) }
+    {
+        self.complete(offset);
+    }
+
+    /// The least incomplete offset, or else the offset after the known ones.
+    pub fn position(&self) -> u64
+        ensures position { (begin n : ℕ) (marks : List Mark)
+            → StandsFor self.now.window begin n marks → result ≡ position_at begin marks }
+        ensures least { result
+            ≡ unwrap_or (least_of self.now.window.incomplete) self.now.window.after }
+    {
+        match self.runs.as_slice().first() {
+            Some(run) => run.0,
+            None => self.after,
+        }
+    }
+
+    /// The greatest complete offset, if there is one.
+    pub fn high(&self) -> Option<u64>
+        ensures { (begin n : ℕ) (marks : List Mark) → StandsFor self.now.window begin n marks
+            → result ≡ high_at marks }
+    {
+        self.high
+    }
+
+    /// Whether a known offset is complete, by a binary search.
+    pub fn is_complete(&self, offset: u64) -> bool
+        ensures { (begin n : ℕ) (marks : List Mark) → StandsFor self.now.window begin n marks
+            → result ≡ not (list_any (λ o. o == offset) (incomplete_offsets marks)) }
+    {
+        !runs::contains(self.runs.as_slice(), offset)
+    }
+
+    /// How many polled offsets are incomplete.
+    pub fn open_polled(&self) -> u32
+        ensures { (begin n : ℕ) (marks : List Mark) → StandsFor self.now.window begin n marks
+            → result ≡ length (incomplete_offsets (take n marks)) }
+    {
+        self.pending
+    }
+
+    /// The bits from the position to the greatest complete offset. None where that lies below the
+    /// position, or there is none.
+    pub fn bits(&self) -> Result<Option<Bits>, AllocError>
+        ensures { IfOk result (λ bits. (begin n : ℕ) (marks : List Mark)
+            → StandsFor self.now.window begin n marks → bits ≡ some_bits (bits_at begin marks)) }
+    {
+        let position = self.position();
+        match self.high {
+            Some(high) if position <= high => {
+                let alloc = *self.runs.allocator();
+                let bits = runs::bits_upto(alloc, self.runs.as_slice(), position, high)?;
+                Ok(Some(bits))
+            }
+            _ => Ok(None),
+        }
+    }
+
+    // Learns one more offset, which is above the known ones, while none was polled.
+    fn inherit(&mut self, offset: u64, is_complete: bool)
+        requires above { self.old.window.after ≤ offset }
+        requires small { offset < 2 ^ 63 - 1 }
+        requires room { 0 < self.old.room }
+        ensures window { self.new.window ≡ inherit_window offset is_complete self.old.window }
+        ensures room { self.old.room ≤ self.new.room + 1 }
+    {
+        if is_complete {
+            self.high = Some(offset);
+        } else {
+            runs::append(&mut self.runs, offset);
+            self.left += 1;
+        }
+        self.after = offset + 1;
+    }
+
+    // Polls one offset, which follows those polled.
+    fn poll(&mut self, offset: u64)
+        requires follows { self.old.window.polled_to ≤ offset }
+        requires small { offset < 2 ^ 63 - 1 }
+        requires next { (begin n : ℕ) × (marks : List Mark)
+            × StandsFor self.old.window begin n marks × AreNext n marks (offset ∷ []) }
+        requires few { open_polled self.old.window + 1 < 2 ^ 32 }
+        requires room { 0 < self.old.room }
+        ensures window { self.new.window ≡ poll_window offset self.old.window }
+        ensures room { self.old.room ≤ self.new.room + 1 }
+    {
+        if offset >= self.after {
+            runs::append(&mut self.runs, offset);
+            self.left += 1;
+            self.pending += 1;
+            self.after = offset + 1;
+        } else if runs::contains(self.runs.as_slice(), offset) {
+            self.pending += 1;
+        }
+        self.polled_to = offset + 1;
+    }
+
+    // Completes an offset.
+    fn complete(&mut self, offset: u64)
+        requires { list_any (λ o. o == offset) self.old.window.incomplete ≡ true }
+        ensures { self.new.window ≡ succeed_window offset self.old.window }
+    {
+        runs::take_out(&mut self.runs, offset);
+        self.left -= 1;
+        if offset < self.polled_to {
+            self.pending -= 1;
+        }
+        self.high = Some(greatest(self.high, offset));
+    }
+}
+
+/// The greatest of the offset and of another, if there is one.
+fn greatest(other: Option<u64>, offset: u64) -> u64
+    ensures { result ≡ option_map_or (max offset) other offset }
+{
+    match other {
+        Some(other) => offset.max(other),
+        None => offset,
+    }
+}
