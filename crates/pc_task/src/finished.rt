@@ -1,0 +1,54 @@
+//! The result of a job.
+
+ghost use Rattle.std.specs.Prelude.{◌≡◌, IfOk};
+ghost use Rattle.pc_model.specs.Outcomes.{outcome_of};
+ghost use Rattle.pc_batch.specs.Record.{plain};
+
+use pc_batch::RecordRef;
+use pc_model::{Answer, Outcome, Rules};
+use std::alloc::{AllocError, Global};
+
+/// A job that was worked on, with the outcome that its rules give.
+#[derive(Debug, Drop)]
+pub struct Finished<'a> {
+    pub ticket: u64,
+    pub worker: u32,
+    pub part: u32,
+    pub epoch: u64,
+    pub attempt: u32,
+    pub entry: RecordRef<'a>,
+    pub rules: &'a Rules,
+    pub outcome: Outcome,
+    pub ghost by_rules: { outcome ≡ outcome_of rules.now part (plain entry) attempt },
+}
+
+impl<'a> Finished<'a> {
+    ghost use Rattle.pc_task.specs.Jobs.{finished_job};
+
+    /// A copy of the result. The only error is want of memory.
+    pub fn copy(&self, alloc: Global) -> Result<Finished<'a>, AllocError>
+        ensures job { IfOk result (λ done. finished_job done ≡ finished_job self.now) }
+        ensures outcome { IfOk result (λ done. done.outcome ≡ self.now.outcome) }
+    {
+        Ok(Finished {
+            ticket: self.ticket,
+            worker: self.worker,
+            part: self.part,
+            epoch: self.epoch,
+            attempt: self.attempt,
+            entry: self.entry,
+            rules: self.rules,
+            outcome: copy_of(alloc, &self.outcome)?,
+        })
+    }
+}
+
+/// A copy of an outcome.
+fn copy_of(alloc: Global, outcome: &Outcome) -> Result<Outcome, AllocError>
+    ensures { IfOk result (λ copy. copy ≡ outcome.now) }
+{
+    match outcome {
+        Outcome::Good(answer) => Ok(Outcome::Good(Answer::from_slice(alloc, answer.as_slice())?)),
+        Outcome::Bad(code) => Ok(Outcome::Bad(*code)),
+    }
+}
