@@ -1,13 +1,15 @@
 -- What a part's log gives from an offset on, and what a history says is left of it.
-use Rattle.std.proofs.Common.{◌≡◌, ℕ, zero, suc, ◌≤◌, Bool, true, false, cond, leb, ltb, List, [], ◌∷◌, ◌++◌, take, drop, Some, refl, sym, ap, subst, ◌∙◌, arith}
-use Rattle.std.specs.Prelude.{filter, slice_get}
+use Rattle.std.proofs.Common.{◌-◌, ◌<◌, length, ◌≡◌, ℕ, zero, suc, ◌≤◌, Bool, true, false, cond, leb, ltb, List, [], ◌∷◌, take, drop, Some, refl, sym, ap, subst, ◌∙◌, arith}
+use Rattle.std.specs.Prelude.{slice_get}
 use Rattle.std.proofs.lemmas.Bool.{leb-true, leb-false, le-leb, lt-leb, lt-ltb, le-ltb}
 use Rattle.std.proofs.lemmas.List.Elements.{filter_agree}
 use Rattle.pc_model.specs.declared.event.Event.{Event}
+use Rattle.pc_model.specs.declared.event.Event.TheVariants.{Assign, Poll}
 use Rattle.pc_model.specs.Record.{Record}
 use Rattle.pc_model.specs.Given.{Given, records_of, rises_from}
 use Rattle.pc_model.specs.Stored.{map_end}
-use Rattle.pc_model.specs.Known.{assigned_commit, begin_of, polled_count, records_from_begin, polled_records, unpolled_records, known_records}
+use Rattle.pc_model.specs.Known.{unpolled_records, known_records}
+use Rattle.pc_model.proofs.KnownLaws.{unpolled_records-poll, known_records-assign}
 use Rattle.pc_cursor.specs.Cursor.{not_below}
 use Rattle.pc_cursor.proofs.BatchFacts.{and-left, and-right}
 use Rattle.pc_broker_log.specs.Logs.{upto}
@@ -87,41 +89,52 @@ get-above least (q ∷ qs) j r at = by_test (leb least q.offset) refl j at
 
 -- ---- what is left of a part's log
 
--- before a poll, what was not polled stands from the begin on
-pub unpolled-first : (given : Given) (h : List Event) (p : ℕ) → polled_count h p ≡ 0
-    → unpolled_records given h p ≡ not_below (begin_of h p) (records_of given p)
-unfolding unpolled_records
-unpolled-first given h p none = ap (λ (k : ℕ). drop k (records_from_begin given h p)) none
+-- where what is left stands from an offset on, a poll leaves what stands above its last record
+pub unpolled-poll : (given : Given) (h : List Event) (p count last from : ℕ) (r : Record)
+    → rises_from 0 (records_of given p) ≡ true
+    → unpolled_records given h p ≡ not_below from (records_of given p) → 0 < count
+    → slice_get (not_below from (records_of given p)) (count - 1) ≡ Some r
+    → unpolled_records given (Poll p count last ∷ h) p
+    ≡ not_below (suc r.offset) (records_of given p)
+unpolled-poll given h p count last from r rise left some at =
+    let log = records_of given p in
+    let rest = rises-filter (λ (q : Record). leb from q.offset) 0 log rise in
+    let above = get-above from log (count - 1) r at in
+    let e : count ≡ suc (count - 1) = omega arith in
+    unpolled_records-poll given h p count last
+    ∙ ap (drop count) left
+    ∙ ap (λ (n : ℕ). drop n (not_below from log)) e
+    ∙ drop-behind 0 (not_below from log) (count - 1) r rest at
+    ∙ not_below-both from (suc r.offset) log (omega (arith, above))
 
--- after polls it stands above the last record that was polled
-pub unpolled-behind : (given : Given) (h : List Event) (p j : ℕ) (r : Record)
-    → rises_from 0 (records_of given p) ≡ true → polled_count h p ≡ suc j
-    → slice_get (records_from_begin given h p) j ≡ Some r
-    → unpolled_records given h p ≡ not_below (suc r.offset) (records_of given p)
-unfolding unpolled_records
-unpolled-behind given h p j r rise count at =
-    let rest = rises-filter (λ (q : Record). leb (begin_of h p) q.offset) 0
-    (records_of given p) rise in
-    ap (λ (k : ℕ). drop k (records_from_begin given h p)) count
-    ∙ drop-behind 0 (records_from_begin given h p) j r rest at
-    ∙ not_below-both (begin_of h p) (suc r.offset) (records_of given p) (let above =
-    get-above (begin_of h p) (records_of given p) j r at in omega (arith, above))
-
--- what is known without a poll: the records up to the end of the assignment's map
-pub known-first : (given : Given) (h : List Event) (p last : ℕ) → polled_count h p ≡ 0
-    → map_end (assigned_commit h p) ≡ suc last → known_records given h p
-    ≡ upto last (not_below (begin_of h p) (records_of given p))
-unfolding known_records polled_records unpolled_records
-known-first given h p last none end =
-    ap (λ (k : ℕ). take k (records_from_begin given h p)
-    ++ filter (λ (r : Record). ltb r.offset (map_end (assigned_commit h p)))
-    (drop k (records_from_begin given h p))) none
-    ∙ filter_agree (λ (r : Record). ltb r.offset (map_end (assigned_commit h p)))
-    (λ (r : Record). leb r.offset last) (λ r. same r.offset) (records_from_begin given h p)
+-- the last of the first records stands in all of them at the same place
+pub last-taken : (most : ℕ) (rs : List Record) → 0 < length (take most rs)
+    → slice_get rs (length (take most rs) - 1)
+    ≡ slice_get (take most rs) (length (take most rs) - 1)
+last-taken most rs some = taken most rs (length (take most rs) - 1) (omega arith)
   where
-    same : (o : ℕ) → ltb o (map_end (assigned_commit h p)) ≡ leb o last
-    same o = ap (ltb o) end ∙ by_test (leb o last) refl
-      where
-        by_test : (t : Bool) → leb o last ≡ t → ltb o (suc last) ≡ t
-        by_test true e = let le = leb-true o last e in lt-ltb o (suc last) (omega arith)
-        by_test false e = let gt = leb-false o last e in le-ltb o (suc last) (omega arith)
+    taken : (n : ℕ) (rs : List Record) (i : ℕ) → i < length (take n rs)
+        → slice_get rs i ≡ slice_get (take n rs) i
+    taken zero rs i lt = absurd (omega arith)
+    taken (suc n) [] i lt = absurd (omega arith)
+    taken (suc n) (r ∷ rs) zero lt = refl
+    taken (suc n) (r ∷ rs) (suc i) lt = taken n rs i (omega arith)
+
+-- what is known of a part just assigned: its records up to the end of the map
+pub known-assign : (given : Given) (h : List Event) (p epoch position : ℕ) (text : List ℕ)
+    (last : ℕ) → map_end (record { position = position; map = text }) ≡ suc last
+    → known_records given (Assign p epoch position text ∷ h) p
+    ≡ upto last (not_below position (records_of given p))
+known-assign given h p epoch position text last end =
+    known_records-assign given h p epoch position text
+    ∙ filter_agree
+    (λ (r : Record). ltb r.offset (map_end (record { position = position; map = text })))
+    (λ (r : Record). leb r.offset last) (λ r. same r.offset)
+    (not_below position (records_of given p))
+  where
+    by_test : (o : ℕ) (t : Bool) → leb o last ≡ t → ltb o (suc last) ≡ t
+    by_test o true e = let le = leb-true o last e in lt-ltb o (suc last) (omega arith)
+    by_test o false e = let gt = leb-false o last e in le-ltb o (suc last) (omega arith)
+
+    same : (o : ℕ) → ltb o (map_end (record { position = position; map = text })) ≡ leb o last
+    same o = ap (ltb o) end ∙ by_test o (leb o last) refl

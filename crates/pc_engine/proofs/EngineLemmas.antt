@@ -280,9 +280,9 @@ assign-refused r f given h h' p told kept was is same = (
   kept p,
   λ told. refl,
   subst (λ (x : Result (Unit {0}) EngineFault). Does x (assign_step given h p (link_failed x)
-  (kept p)) h h') (sym was)
-  (does-refused (assign_refusal given h p) f given h h' p (link_failed {A = Unit {0}} (Err f))
-  (kept p) is same),
+      (kept p)) h h') (sym was)
+      (does-refused (assign_refusal given h p) f given h h' p (link_failed {A = Unit {0}} (Err f))
+      (kept p) is same),
 )
 
 -- an assignment for which there was no memory
@@ -294,7 +294,7 @@ assign-unmade r given h h' p told kept was same = (
   kept p,
   λ told. refl,
   subst (λ (x : Result (Unit {0}) EngineFault). Does x (assign_step given h p (link_failed x)
-  (kept p)) h h') (sym was) same,
+      (kept p)) h h') (sym was) same,
 )
 
 -- an assignment whose fetch failed
@@ -309,7 +309,7 @@ assign-unfetched r f given h h' p told kept was none (inr is) same = (
   kept p,
   λ told. refl,
   subst (λ (x : Result (Unit {0}) EngineFault). Does x (assign_step given h p (link_failed x)
-  (kept p)) h h') (sym (was ∙ ap (λ (x : EngineFault). Err x) is)) (rw none (refl, same)),
+      (kept p)) h h') (sym (was ∙ ap (λ (x : EngineFault). Err x) is)) (rw none (refl, same)),
 )
 
 -- an epoch begins or ends with an event
