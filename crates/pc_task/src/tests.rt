@@ -1,9 +1,23 @@
 //! Tables of answers and outcomes.
 
 use crate::{Job, RuleTask, Task, answer_of};
-use pc_batch::{Headers, RecordRef};
+use pc_batch::read_batch;
 use pc_model::{FailRule, FailRules, Outcome, Rules, Work};
 use std::test::Fail;
+
+// One batch with the records (0, "a", "x"), (1, "b", "yy") and (2, "a", "zzz").
+const THREE_RECORDS: [u8; 91] = [
+    0x00, 0x00, 0x00, 0x00, 0x00, 0x00, 0x00, 0x00, //
+    0x00, 0x00, 0x00, 0x4F, 0x00, 0x00, 0x00, 0x00, 0x02, 0xD6, 0xFC, 0x11, 0xEE, //
+    0x00, 0x00, 0x00, 0x00, 0x00, 0x02, //
+    0x00, 0x00, 0x00, 0x00, 0x00, 0x00, 0x00, 0x00, //
+    0x00, 0x00, 0x00, 0x00, 0x00, 0x00, 0x00, 0x00, //
+    0xFF, 0xFF, 0xFF, 0xFF, 0xFF, 0xFF, 0xFF, 0xFF, //
+    0xFF, 0xFF, 0xFF, 0xFF, 0xFF, 0xFF, 0x00, 0x00, 0x00, 0x03, //
+    0x10, 0x00, 0x00, 0x00, 0x02, 0x61, 0x02, 0x78, 0x00, //
+    0x12, 0x00, 0x00, 0x02, 0x02, 0x62, 0x04, 0x79, 0x79, 0x00, //
+    0x14, 0x00, 0x00, 0x04, 0x02, 0x61, 0x06, 0x7A, 0x7A, 0x7A, 0x00,
+];
 
 /// A function, a value and the answer.
 type Row = (Work, Option<&'static [u8]>, &'static [u8]);
@@ -24,6 +38,57 @@ fn answers(rt: HostRuntime) -> Result<(), Fail> {
     for (work, value, answer) in ANSWERS {
         let got = answer_of(rt.alloc(), work, value)?;
         assert_eq!(rt; got.as_slice(), answer, "of {value:?}");
+    }
+    Ok(())
+}
+
+/// Of the second record each attempt, and the answer where it does not fail.
+const ATTEMPTS: [(u32, Option<&[u8]>); 4] = [
+    (1, None),
+    (2, None),
+    (3, Some(b"2")),
+    (7, Some(b"2")),
+];
+
+/// The first of two rules for a record counts, and a result is copied whole.
+#[test]
+fn a_record_fails_as_often_as_its_first_rule_says(rt: HostRuntime) -> Result<(), Fail> {
+    let rule = |part, times| FailRule {
+        part,
+        offset: 1,
+        times,
+    };
+    let rules = Rules {
+        work: Work::Length,
+        fails: FailRules::from_slice(rt.alloc(), &[rule(1, 9), rule(0, 2), rule(0, 9)])?,
+    };
+    let batch = read_batch(&THREE_RECORDS, 0).map_err(|_| std::alloc::AllocError)?;
+    for (attempt, answer) in ATTEMPTS {
+        let mut records = batch.records();
+        let _first = records.next();
+        let Some(entry) = records.next() else {
+            continue;
+        };
+        let job = Job {
+            ticket: 1,
+            worker: 0,
+            part: 0,
+            epoch: 1,
+            attempt,
+            entry,
+            rules: &rules,
+        };
+        match RuleTask.call(rt.alloc(), &job) {
+            Ok(outcome) => {
+                let done = job.finish(outcome).copy(rt.alloc())?;
+                let got = match &done.outcome {
+                    Outcome::Good(answer) => Some(answer.as_slice()),
+                    Outcome::Bad(_) => None,
+                };
+                assert_eq!(rt; got, answer, "at {attempt}");
+            }
+            Err(_) => job.abandon(),
+        }
     }
     Ok(())
 }
