@@ -21,6 +21,7 @@ use Rattle.parcon.specs.Ending.{ends, ending_after, output_of, play_text, fault_
 use Rattle.parcon.specs.Written.{HasFront, IsWritten}
 use Rattle.parcon.specs.Promise.{Ends, IsKept, Outside, given_of}
 use Rattle.parcon.proofs.WrittenLemmas.{front-none, unchanged}
+use Rattle.parcon.proofs.ReadingLemmas.{status-is}
 use Rattle.parcon.proofs.PlayLemmas.{kept-at-start}
 
 whole-no-line : fault_line Whole ≡ []
@@ -45,9 +46,6 @@ unwritten before after f f' text given is same = record {
       (front-none before text);
   whole = λ whole. absurd (whole-not-memory (sym whole ∙ is));
 }
-
-status-is : (s t : Status) → ◌≡◌ {A = Result (List PlayLine) Status} (Err s) (Err t) → s ≡ t
-status-is s t is = cc
 
 module _ (words : List (List ℕ)) (before after : Outside) where
   -- memory ran out while the files were read

@@ -133,7 +133,7 @@ pub was-read : {A B : Type 0} (v : A) → ◌≡◌ {A = Result A Status} (Ok v)
 was-read v (inl is) = absurd (ok-no-memory v is)
 was-read v (inr b) = b
 
-status-is : {A : Type 0} (s t : Status) → ◌≡◌ {A = Result A Status} (Err s) (Err t) → s ≡ t
+pub status-is : {A : Type 0} (s t : Status) → ◌≡◌ {A = Result A Status} (Err s) (Err t) → s ≡ t
 status-is s t is = cc
 
 -- the status of the script's read is that of the play
