@@ -1,5 +1,5 @@
-//! The epochs of the parts: of each part how often it was assigned, ended or met a crash, and whether
-//! it is held.
+//! The epochs of the parts: of each part how often it was assigned, ended or met a crash, and
+//! whether it is held.
 #![tactic(auto)]
 
 mod epochs;

@@ -6,6 +6,7 @@ mod sizes;
 mod text;
 
 pub use choice::{Choice, choose, pressed};
+pub use sizes::shortest_of;
 
 #[cfg(test)]
 mod tests;

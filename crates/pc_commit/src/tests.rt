@@ -1,8 +1,9 @@
-//! What no clause says: that memory is found. Each fault is seen.
+//! What no clause says: that memory is found, and what the worked commits are.
 
-use crate::{ResumeFault, resume};
+use crate::{ResumeFault, commit_of, resume};
 use pc_cursor::Log;
 use pc_model::{BadMapRule, Commit, MapFault, MapText};
+use pc_partition::PartitionState;
 use std::test::Fail;
 
 /// One batch with the offsets 0 to 2 and the keys `a`, `b` and `a`.
@@ -35,6 +36,60 @@ const STORED: [(&str, BadMapRule, Resumed); 7] = [
         Err(ResumeFault::BadMap(MapFault::NotBase64)),
     ),
 ];
+
+/// Limits with the text and the size of the map of the offsets 0 and 1, of which 1 is complete.
+const LIMITS: [(u32, &str, u32); 4] = [
+    (4_096, "bAACAg==", 8),
+    (8, "bAACAg==", 8),
+    (7, "", 8),
+    (0, "", 8),
+];
+
+#[test]
+fn a_long_map_is_left_out(rt: HostRuntime) -> Result<(), Fail> {
+    let state = PartitionState::start(rt.alloc(), 0, &[(0, false), (1, true)])?;
+    for (limit, map, size) in LIMITS {
+        let commit = commit_of(rt.alloc(), &state, limit)?;
+        assert_eq!(rt; commit.commit.position, 0);
+        assert_eq!(rt; commit.commit.map.as_str(), map, "at {limit}");
+        assert_eq!(rt; commit.size, size, "at {limit}");
+    }
+    Ok(())
+}
+
+// The offsets 0, 1 and 5, of which the first and the last are complete: an offset without a record
+// has the bit 1.
+#[test]
+fn gaps_are_passed_over(rt: HostRuntime) -> Result<(), Fail> {
+    let pairs = [(0, true), (1, false), (5, true)];
+    let state = PartitionState::start(rt.alloc(), 0, &pairs)?;
+    let commit = commit_of(rt.alloc(), &state, 4_096)?;
+    assert_eq!(rt; commit.commit.position, 1);
+    assert_eq!(rt; commit.commit.map.as_str(), "bAAFHg==");
+    assert_eq!(rt; commit.size, 8);
+    Ok(())
+}
+
+// 2^31 bits and one run of 1 bits as long: no encoding can hold them.
+#[test]
+fn no_encoding_holds_too_many(rt: HostRuntime) -> Result<(), Fail> {
+    let pairs = [(0, false), (1 << 31, true)];
+    let state = PartitionState::start(rt.alloc(), 0, &pairs)?;
+    let commit = commit_of(rt.alloc(), &state, 4_096)?;
+    assert_eq!(rt; commit.commit.map.as_str(), "");
+    assert_eq!(rt; commit.size, u32::MAX);
+    Ok(())
+}
+
+#[test]
+fn all_complete_has_no_map(rt: HostRuntime) -> Result<(), Fail> {
+    let state = PartitionState::start(rt.alloc(), 3, &[(3, true), (9, true)])?;
+    let commit = commit_of(rt.alloc(), &state, 4_096)?;
+    assert_eq!(rt; commit.commit.position, 10);
+    assert_eq!(rt; commit.commit.map.as_str(), "");
+    assert_eq!(rt; commit.size, 0);
+    Ok(())
+}
 
 #[test]
 fn stored_maps_are_resumed(rt: HostRuntime) -> Result<(), Fail> {

@@ -40,7 +40,7 @@ run_lengths_from-run false (suc (suc n)) bits apart some =
 -- ---- how many lengths there are
 
 -- the lengths by the runs of 0 bits, from a run of 1 bits on
-abbrev lengths_by_runs : ℕ → ℕ → List (ℕ × ℕ) → List ℕ
+abbrev pub lengths_by_runs : ℕ → ℕ → List (ℕ × ℕ) → List ℕ
 lengths_by_runs at count [] = if nat_lt at count then (count - at) ∷ [] else []
 lengths_by_runs at count (run ∷ runs) = (run.0 - at) ∷ run.1 ∷ lengths_by_runs (run.0 + run.1) count runs
 
@@ -50,7 +50,7 @@ BeginsApart-zeros zero bits some = absurd (omega arith)
 BeginsApart-zeros (suc n) bits some = tt
 
 -- bits that begin with a run of 1 bits, or end
-BeginsApart-bits_of : (at count : ℕ) (runs : List (ℕ × ℕ)) → AreRuns (at + 1) count runs → BeginsApart false (bits_of at count runs)
+pub BeginsApart-bits_of : (at count : ℕ) (runs : List (ℕ × ℕ)) → AreRuns (at + 1) count runs → BeginsApart false (bits_of at count runs)
 BeginsApart-bits_of at count [] are = go (count - at) where
   go : (n : ℕ) → BeginsApart false (replicate n true)
   go zero = tt
@@ -60,7 +60,7 @@ BeginsApart-bits_of at count (run ∷ runs) are =
     rw gap tt
 
 -- the lengths of bits that have these runs
-run_lengths_from-bits_of : (at count : ℕ) (runs : List (ℕ × ℕ)) → AreRuns at count runs → run_lengths_from true (bits_of at count runs) ≡ lengths_by_runs at count runs
+pub run_lengths_from-bits_of : (at count : ℕ) (runs : List (ℕ × ℕ)) → AreRuns at count runs → run_lengths_from true (bits_of at count runs) ≡ lengths_by_runs at count runs
 run_lengths_from-bits_of at count [] are = elim (cases_lt at count) [
   | inl less ↦
       rw (lt-ltb at count less) (ap (run_lengths_from true) (sym (append-nil (replicate (count - at) true))) ∙ run_lengths_from-run true (count - at) [] tt (omega arith))

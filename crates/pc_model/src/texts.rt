@@ -1,5 +1,5 @@
 //! Short texts in UTF-8. Contracts see each as its bytes.
-ghost use Rattle.std.specs.Prelude.{◌≡◌, ℕ, List, IfOk, IsUtf8, string_bytes};
+ghost use Rattle.std.specs.Prelude.{◌≡◌, ℕ, List, [], IfOk, IsUtf8, string_bytes};
 
 use std::alloc::{AllocError, Global};
 use std::marker::Model;
@@ -17,6 +17,15 @@ impl Model for MapText {
 }
 
 impl MapText {
+    /// The empty text, which is no map. Takes no memory.
+    pub fn empty(alloc: Global) -> MapText
+        ensures { result ≡ [] }
+    {
+        MapText {
+            text: String::new(alloc),
+        }
+    }
+
     /// A copy of the text. The only error is want of memory.
     pub fn from_str(alloc: Global, text: &str) -> Result<MapText, AllocError>
         ensures { IfOk result (λ t. t ≡ text.now) }

@@ -1,5 +1,5 @@
 -- The bits that a walk over runs makes.
-use Rattle.std.proofs.Common.{◌≡◌, ℕ, zero, suc, ◌+◌, ◌-◌, ◌^◌, ◌<◌, ◌≤◌, Bool, true, false, not, ◌||◌, ◌&&◌, eqb, leb, List, [], ◌∷◌, ◌++◌, length, get_or, take, drop, map, replicate, Some, None, refl, sym, ap, subst, ◌∙◌, arith, inl, inr, add-one, add-zero}
+use Rattle.std.proofs.Common.{◌≡◌, ℕ, zero, suc, ◌+◌, ◌-◌, ◌^◌, ◌<◌, ◌≤◌, Bool, true, false, not, ◌||◌, ◌&&◌, eqb, leb, List, [], ◌∷◌, ◌++◌, length, get_or, take, drop, map, replicate, Option, Some, None, IfSome, refl, sym, ap, subst, ◌∙◌, arith, inl, inr, add-one, add-zero}
 use Rattle.std.specs.List.{AllWithin, list_any, range_with_len}
 use Rattle.std.specs.Option.{unwrap_or}
 use Rattle.std.proofs.lemmas.Bool.{cases_lt, le-ltb}
@@ -201,3 +201,16 @@ AreRuns-position after (run ∷ runs) position are small first =
     let at : position ≡ run.0 = first ∙ ap (λ o. unwrap_or o after) least in
     let all = AreRuns-all after (run ∷ runs) are small in
     (omega (arith, at), all.1, all.2, all.3)
+
+-- where the position lies below the known ones, the first run begins there
+pub first-position : (after : ℕ) (runs : List (ℕ × ℕ)) (position : ℕ) (d : ℕ × ℕ) → AreRuns 0 after runs
+    → position ≡ unwrap_or (least_of (offsets_in runs)) after → position < after → (get_or runs 0 d).0 ≡ position
+first-position after [] position d are first less =
+    let at : position ≡ after = first in absurd (omega arith)
+first-position after (run ∷ runs) position d are first less =
+    sym (first ∙ ap (λ o. unwrap_or o after) (least-runs 0 after run runs are))
+
+-- a high is below where the known ones end
+pub high-after : (after h : ℕ) (high : Option ℕ) → IfSome high (λ h. h < after) → high ≡ Some h → h < after
+high-after after h None below is = cc
+high-after after h (Some g) below is = let same : g ≡ h = cc in omega (arith, below, same)

@@ -2,9 +2,11 @@
 //! between them.
 #![tactic(auto)]
 
+mod lengths;
 mod runs;
 mod state;
 
+pub use lengths::Lengths;
 pub use state::PartitionState;
 
 #[cfg(test)]

@@ -31,7 +31,8 @@ pub fn contains(runs: &[(u64, u64)], offset: u64) -> bool
     offset - start < size
 }
 
-/// Appends an offset above all runs, which joins the last run where that ends there. Takes no memory.
+/// Appends an offset above all runs, which joins the last run where that ends there. Takes no
+/// memory.
 pub fn append(runs: &mut Vec<(u64, u64)>, offset: u64)
     requires in_order { AreRuns 0 offset runs.old.items }
     requires small { offset < 2 ^ 63 }

@@ -4,12 +4,14 @@
 
 ghost use Rattle.std.specs.Prelude.{◌≡◌, ℕ, ◌+◌, ◌-◌, ◌^◌, ◌<◌, ◌≤◌, ◌==◌, [], ◌∷◌, not, true, max, List, map, take, length, IfOk, OnErr, OnOk};
 ghost use Rattle.std.specs.List.{list_any};
-ghost use Rattle.std.specs.Option.{option_map_or, unwrap_or};
+ghost use Rattle.std.specs.Option.{option_map, option_map_or, unwrap_or};
 ghost use Rattle.pc_model.specs.Numbers.{least_of};
 ghost use Rattle.pc_model.specs.Marks.{Mark, bits_at, high_at, incomplete_offsets, position_at};
 ghost use Rattle.pc_model.specs.OneMore.{with_complete};
+ghost use Rattle.pc_partition.specs.Lengths.{lengths_of};
 ghost use Rattle.pc_partition.specs.Window.{AreNext, RisesFrom, StandsFor, inherit_window, marks_of_pairs, open_polled, poll_window, some_bits, succeed_window, with_polled};
 
+use crate::lengths::{self, Lengths};
 use crate::runs;
 use pc_model::Bits;
 use std::alloc::{AllocError, Global};
@@ -80,8 +82,8 @@ impl PartitionState {
         Ok(state)
     }
 
-    /// Polls the offsets, which are new where they are not known. Where memory runs out, the same is
-    /// known and polled as before.
+    /// Polls the offsets, which are new where they are not known. Where memory runs out, the same
+    /// is known and polled as before.
     pub fn polled(&mut self, offsets: &[u64]) -> Result<(), AllocError>
         requires rises { RisesFrom self.old.window.polled_to offsets.now }
         requires next { (begin n : ℕ) × (marks : List Mark)
@@ -133,8 +135,10 @@ impl PartitionState {
 
     /// Whether a known offset is complete, by a binary search.
     pub fn is_complete(&self, offset: u64) -> bool
-        ensures { (begin n : ℕ) (marks : List Mark) → StandsFor self.now.window begin n marks
+        ensures complete { (begin n : ℕ) (marks : List Mark)
+            → StandsFor self.now.window begin n marks
             → result ≡ not (list_any (λ o. o == offset) (incomplete_offsets marks)) }
+        ensures value { result ≡ not (list_any (λ o. o == offset) self.now.window.incomplete) }
     {
         !runs::contains(self.runs.as_slice(), offset)
     }
@@ -161,6 +165,21 @@ impl PartitionState {
                 Ok(Some(bits))
             }
             _ => Ok(None),
+        }
+    }
+
+    /// The lengths of the encodings of the bits, without the letter. None where there are no bits.
+    /// Takes no memory.
+    pub fn lengths(&self) -> Option<Lengths>
+        ensures { (begin n : ℕ) (marks : List Mark) → StandsFor self.now.window begin n marks
+            → result ≡ option_map lengths_of (some_bits (bits_at begin marks)) }
+    {
+        let position = self.position();
+        match self.high {
+            Some(high) if position <= high => {
+                Some(lengths::of_runs(self.runs.as_slice(), position, high))
+            }
+            _ => None,
         }
     }
 

@@ -1,6 +1,6 @@
 //! What no clause says: that memory is found.
 
-use crate::PartitionState;
+use crate::{Lengths, PartitionState};
 use std::test::Fail;
 
 // Three records, of which the second succeeds first.
@@ -31,5 +31,37 @@ fn a_map_is_inherited(rt: HostRuntime) -> Result<(), Fail> {
     let bits = state.bits()?.expect(&rt, "bits");
     assert_eq!(rt; bits.count(), 2);
     assert_eq!(rt; bits.run(0), Some((0, 1)));
+    Ok(())
+}
+
+// Twenty-six bits, of which the first alone is 0.
+#[test]
+fn lengths_of_a_window(rt: HostRuntime) -> Result<(), Fail> {
+    let mut state = PartitionState::start(rt.alloc(), 0, &[(0, false), (25, true)])?;
+    let lengths = Lengths {
+        bitset: Some(6),
+        runlength: Some(4),
+        bitset2: Some(8),
+        runlength2: Some(8),
+    };
+    assert_eq!(rt; state.lengths(), Some(lengths));
+    state.succeed(0);
+    assert_eq!(rt; state.lengths(), None);
+    assert!(rt; state.bits()?.is_none());
+    assert_eq!(rt; state.position(), 26);
+    Ok(())
+}
+
+// One 0 bit and 40,000 1 bits: a run is longer than 32,767.
+#[test]
+fn lengths_of_a_long_run(rt: HostRuntime) -> Result<(), Fail> {
+    let state = PartitionState::start(rt.alloc(), 7, &[(7, false), (40_007, true)])?;
+    let lengths = Lengths {
+        bitset: None,
+        runlength: None,
+        bitset2: Some(5_005),
+        runlength2: Some(8),
+    };
+    assert_eq!(rt; state.lengths(), Some(lengths));
     Ok(())
 }

@@ -1,5 +1,5 @@
-//! The records that failed and wait for their ready time: which of them is due, and when the next one
-//! is.
+//! The records that failed and wait for their ready time: which of them is due, and when the next
+//! one is.
 #![tactic(auto)]
 
 mod queue;

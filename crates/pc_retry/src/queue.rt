@@ -1,5 +1,5 @@
-//! The queue of retries. Clauses see the records that wait, in no order that counts, and for how many
-//! more there is room.
+//! The queue of retries. Clauses see the records that wait, in no order that counts, and for how
+//! many more there is room.
 
 ghost use Rattle.std.specs.Prelude.{◌≡◌, ℕ, ◌+◌, ◌<◌, ◌≤◌, not, ◌==◌, [], ◌∷◌, IfOk, None, Some, filter, map};
 ghost use Rattle.std.specs.Option.{option_map};
@@ -65,8 +65,9 @@ impl RetryQueue {
     /// Lets a record wait until `ready_at`, for which room was reserved. Takes no memory.
     pub fn put(&mut self, ready_at: u64, part: u32, offset: u64)
         requires { 0 < self.old.room }
-        ensures retries { IsPermutation (record { ready_at = ready_at; part = part; offset = offset }
-            ∷ self.old.retries) self.new.retries }
+        ensures retries { IsPermutation
+            (record { ready_at = ready_at; part = part; offset = offset } ∷ self.old.retries)
+            self.new.retries }
         ensures room { self.old.room ≤ self.new.room + 1 }
     {
         let retry = Retry {
@@ -79,8 +80,8 @@ impl RetryQueue {
         };
     }
 
-    /// Takes out the part and the offset of the least by time, part and offset, where its time is not
-    /// after `now`.
+    /// Takes out the part and the offset of the least by time, part and offset, where its time is
+    /// not after `now`.
     pub fn due(&mut self, now: u64) -> Option<(u32, u64)>
         ensures due { result
             ≡ option_map (λ r. (r.part, r.offset)) (due_retry now self.old.retries) }
