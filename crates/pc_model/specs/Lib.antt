@@ -23,3 +23,6 @@ pub mod Run
 pub mod Test
 pub mod Rows
 pub mod OneMore
+pub mod Messages
+pub mod MessageReading
+pub mod Broker

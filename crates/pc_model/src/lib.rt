@@ -3,6 +3,7 @@
 //! Every other crate cites these definitions; none of them speaks of how the code works.
 #![tactic(auto)]
 
+pub mod api;
 mod bits;
 mod bits_fault;
 mod choices;
@@ -16,6 +17,7 @@ mod map_letter;
 mod outcome;
 mod setup;
 mod texts;
+mod wire_fault;
 
 pub use bits::Bits;
 pub use bits_fault::BitsFault;
@@ -29,6 +31,7 @@ pub use map_letter::{BITSET, BITSET_2, RUN_LENGTH, RUN_LENGTH_2};
 pub use outcome::{FailRule, Outcome, Rules, Start};
 pub use setup::{Settings, Setup, SetupFault, SetupField};
 pub use texts::{KeyText, MapText, NameText};
+pub use wire_fault::WireFault;
 
 #[cfg(test)]
 mod tests;
