@@ -1,6 +1,6 @@
 -- A broker of offsets: what it stores, and the step that a frame makes. The conditions of the codes
 -- and their order are this project's own.
-use Rattle.std.specs.Prelude.{ℕ, ◌+◌, ◌^◌, ◌==◌, ℤ, pos, Bool, true, false, not, ◌&&◌, nat_lt, if◌then◌else◌, unsigned_abs, List, [], ◌∷◌, map, length, take, drop, find, bytes_eq, Option, Some, None, unwrap_or, Result, Ok, Err}
+use Rattle.std.specs.Prelude.{ℕ, ◌^◌, ◌==◌, ℤ, pos, Bool, false, not, ◌&&◌, nat_lt, if◌then◌else◌, unsigned_abs, List, [], ◌∷◌, map, length, take, drop, find, bytes_eq, Option, Some, None, unwrap_or, Result, Ok, Err}
 use Rattle.std.proofs.Common.{negsuc}
 use Rattle.std.specs.List.{flat_map, list_any}
 use Rattle.std.specs.Option.{option_map}
@@ -10,7 +10,7 @@ use Rattle.byteorder.specs.Endian.{big_number}
 use Rattle.pc_model.specs.declared.api.TheConstants.{OFFSET_FETCH, NO_ERROR, UNKNOWN_TOPIC_OR_PARTITION, OFFSET_METADATA_TOO_LARGE, ILLEGAL_GENERATION, UNKNOWN_MEMBER_ID, METADATA_MAX}
 use Rattle.pc_model.specs.declared.commit.Commit.{Commit}
 use Rattle.pc_model.specs.declared.wire_fault.WireFault.{WireFault}
-use Rattle.pc_model.specs.Messages.{Topic, CommitItem, CommitRequest, CommitCode, CommitReply, FetchRequest, FetchEntry, FetchReply, frame_spelling, commit_reply_body, fetch_reply_body}
+use Rattle.pc_model.specs.Messages.{Topic, CommitItem, CommitRequest, CommitReply, FetchRequest, FetchEntry, FetchReply, frame_spelling, commit_reply_body, fetch_reply_body}
 use Rattle.pc_model.specs.MessageReading.{commit_request_reading, fetch_request_reading}
 
 -- ---- the store

@@ -1,5 +1,5 @@
 -- The reading of each message from left to right, with the first fault that is met.
-use Rattle.std.specs.Prelude.{ℕ, zero, suc, ◌==◌, ℤ, pos, Bool, true, false, nat_lt, if◌then◌else◌, int_lt, List, [], ◌∷◌, length, take, drop, Option, Some, None, Result, Ok, Err}
+use Rattle.std.specs.Prelude.{ℕ, zero, suc, ◌==◌, ℤ, pos, nat_lt, if◌then◌else◌, int_lt, List, [], ◌∷◌, length, take, drop, Option, Some, None, Result, Ok, Err}
 use Rattle.std.proofs.Common.{negsuc}
 use Rattle.std.specs.Int.{Width, w16, w32, w64, byte_len, cast_signed}
 use Rattle.std.specs.Ordering.{int_eq}

@@ -1,6 +1,6 @@
 -- The four messages as plain values, and the one spelling of each (Kafka's protocol guide:
 -- OffsetCommit, version 2, and OffsetFetch, version 1). All numbers are big-endian.
-use Rattle.std.specs.Prelude.{ℕ, ◌+◌, ◌^◌, ◌<◌, ◌≡◌, ℤ, pos, true, List, [], ◌∷◌, ◌++◌, length, Option, Some, None, FitsSigned, ⊤}
+use Rattle.std.specs.Prelude.{ℕ, ◌^◌, ◌<◌, ◌≡◌, ℤ, pos, ◌+ℤ◌, true, List, ◌++◌, length, Option, Some, None, FitsSigned, ⊤}
 use Rattle.std.proofs.Common.{negsuc}
 use Rattle.std.specs.List.{AllByRecursion, flat_map}
 use Rattle.std.specs.Int.{Width, w16, w32, w64, byte_len, cast_unsigned}
