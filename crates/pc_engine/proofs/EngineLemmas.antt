@@ -1,6 +1,6 @@
 -- What an engine's type keeps after each event.
 use Rattle.std.proofs.Common.{◌≡◌, ◌⊎◌, ℕ, zero, suc, ◌+◌, ◌≤◌, ◌<◌, Bool, true, false, ◌==◌, cond, List, [], ◌∷◌, ◌++◌, map, take, drop, length, replicate, set, Option, Some, None, Result, Ok, Err, refl, ap, sym, subst, ◌∙◌, arith, inl, inr, eq-eqb, get_or}
-use Rattle.std.specs.Prelude.{find, nat_lt, unwrap_or, slice_get, is_some}
+use Rattle.std.specs.Prelude.{◌^◌, ◌&&◌, bytes_eq, find, nat_lt, unwrap_or, slice_get, is_some}
 use Rattle.std.specs.List.{list_all, range_with_len}
 use Rattle.std.specs.Option.{option_or, option_flatten, option_map_or}
 use Rattle.std.proofs.lemmas.Bool.{cases_Bool, cases_lt, eqb-true, lt-ltb, ltb-true}
@@ -29,11 +29,16 @@ use Rattle.pc_model.proofs.KnownLaws.{assigned_commit-assign}
 use Rattle.std.proofs.lemmas.Slice.Eq.{bytes_eq-Decides}
 use Rattle.pc_engine.specs.declared.part.PartState.{PartState}
 use Rattle.pc_engine.specs.declared.fault.EngineFault.{EngineFault}
-use Rattle.pc_engine.specs.declared.fault.EngineFault.TheVariants.{NoMemory, Client}
-use Rattle.pc_engine.specs.declared.client.ClientFault.TheVariants.{LinkFailed}
+use Rattle.pc_engine.specs.declared.fault.EngineFault.TheVariants.{NoMemory, Client, BadMap}
+use Rattle.pc_model.specs.declared.choices.BadMapRule.{BadMapRule}
+use Rattle.pc_model.specs.declared.map_fault.MapFault.{MapFault}
+use Rattle.pc_offset_client.specs.declared.fault.ClientFault.{ClientFault}
+use Rattle.pc_offset_client.specs.declared.fault.ClientFault.TheVariants as client
+use Rattle.pc_model.specs.Broker.{Broker}
+use Rattle.pc_offset_client.specs.Client.{CommitGives, FetchGives, Accepts, GROUP, kept_for}
+use Rattle.pc_engine.specs.Fault.{engine_fault_of}
 use Rattle.pc_engine.specs.declared.engine.Committed.{Committed as Receipt}
-use Rattle.pc_world.specs.World.{KeepsAt, MayKeepAt}
-use Rattle.pc_engine.specs.Effect.{Does, refuses, link_failed, assign_after, is_full, refused_by, map_refusal, assign_step, assign_refusal, commit_refusal, commit_step}
+use Rattle.pc_engine.specs.Effect.{Does, StoresOnly, refuses, assign_after, commit_after, is_full, refused_by, map_refusal, assign_step, assign_refusal, commit_refusal, commit_step}
 use Rattle.pc_engine.specs.Engine.{first_assigned, start_at, starts_by, given_by, PartKeeps, IsEngine}
 
 not-lt : (p n : ℕ) → n ≤ p → nat_lt p n ≡ false
@@ -254,6 +259,11 @@ does-refuses : (f : EngineFault) (h h' : List Event) → h' ≡ h
 does-refuses NoMemory h h' same = same
 does-refuses f h h' same = (refl, same)
 
+does-refuses_receipt : (f : EngineFault) (h h' : List Event) → h' ≡ h
+    → Does {A = Receipt} (Err f) (refuses f) h h'
+does-refuses_receipt NoMemory h h' same = same
+does-refuses_receipt f h h' same = (refl, same)
+
 not-ok : (f : EngineFault) → ◌≡◌ {A = Result (Unit {0}) EngineFault} (Err f) (Ok tt) → ⊥
 not-ok f is = cc
 
@@ -261,55 +271,74 @@ fault-is : (f g : EngineFault) → ◌≡◌ {A = Result (Unit {0}) EngineFault}
 fault-is f g is = cc
 
 does-refused : (o : Option EngineFault) (f : EngineFault) (given : Given) (h h' : List Event)
-    (p : ℕ) (failed : Bool) (stored : Commit) → ◌≡◌ {A = Result (Unit {0}) EngineFault}
+    (p : ℕ) (outcome : Result Commit ClientFault) → ◌≡◌ {A = Result (Unit {0}) EngineFault}
     (Err f) (refused_by o) → h' ≡ h
-    → Does (Err f) (assign_after given h p failed stored o) h h'
-does-refused None f given h h' p failed stored is same = absurd (not-ok f is)
-does-refused (Some g) f given h h' p failed stored is same =
+    → Does (Err f) (assign_after given h p outcome o) h h'
+does-refused None f given h h' p outcome is same = absurd (not-ok f is)
+does-refused (Some g) f given h h' p outcome is same =
     subst (λ (x : EngineFault). Does {A = Unit {0}} (Err f) (refuses x) h h') (fault-is f g is)
     (does-refuses f h h' same)
 
+-- what is said of an assignment: what the client answered, and the step by that
+Assigns : (told : Bool) (b : Broker) (given : Given) (h h' : List Event) (p : ℕ) → Result (Unit {0}) EngineFault → Type 0
+Assigns told b given h h' p r = (outcome : Result Commit ClientFault)
+    × (told ≡ true → FetchGives b p outcome) × Does r (assign_step given h p outcome) h h'
+
 -- an assignment that is refused before the link is asked
 pub assign-refused : (r : Result (Unit {0}) EngineFault) (f : EngineFault) (given : Given)
-    (h h' : List Event) (p : ℕ) (told : Bool) (kept : ℕ → Commit) → r ≡ Err f
+    (h h' : List Event) (p : ℕ) (told : Bool) (b : Broker) → r ≡ Err f
     → ◌≡◌ {A = Result (Unit {0}) EngineFault} (Err f) (refused_by (assign_refusal given h p))
     → h' ≡ h
-    → (c : Commit) × (told ≡ true → c ≡ kept p) × Does r
-    (assign_step given h p (link_failed r) c) h h'
-assign-refused r f given h h' p told kept was is same = (
-  kept p,
-  λ told. refl,
-  subst (λ (x : Result (Unit {0}) EngineFault). Does x (assign_step given h p (link_failed x)
-      (kept p)) h h') (sym was)
-      (does-refused (assign_refusal given h p) f given h h' p (link_failed {A = Unit {0}} (Err f))
-      (kept p) is same),
+    → (outcome : Result Commit ClientFault)
+    × (told ≡ true → FetchGives b p outcome) × Does r (assign_step given h p outcome) h h'
+assign-refused r f given h h' p told b was is same = (
+  Err client.NoMemory,
+  λ told. tt,
+  subst (λ (x : Result (Unit {0}) EngineFault). Does x (assign_step given h p (Err client.NoMemory)) h h') (sym was)
+      (does-refused (assign_refusal given h p) f given h h' p (Err client.NoMemory) is same),
 )
 
 -- an assignment for which there was no memory
 pub assign-unmade : (r : Result (Unit {0}) EngineFault) (given : Given)
-    (h h' : List Event) (p : ℕ) (told : Bool) (kept : ℕ → Commit) → r ≡ Err NoMemory → h' ≡ h
-    → (c : Commit) × (told ≡ true → c ≡ kept p) × Does r
-    (assign_step given h p (link_failed r) c) h h'
-assign-unmade r given h h' p told kept was same = (
-  kept p,
-  λ told. refl,
-  subst (λ (x : Result (Unit {0}) EngineFault). Does x (assign_step given h p (link_failed x)
-      (kept p)) h h') (sym was) same,
+    (h h' : List Event) (p : ℕ) (told : Bool) (b : Broker) → r ≡ Err NoMemory → h' ≡ h
+    → (outcome : Result Commit ClientFault)
+    × (told ≡ true → FetchGives b p outcome) × Does r (assign_step given h p outcome) h h'
+assign-unmade r given h h' p told b was same = (
+  Err client.NoMemory,
+  λ told. tt,
+  subst (λ (x : Result (Unit {0}) EngineFault). Does x (assign_step given h p (Err client.NoMemory)) h h') (sym was) same,
 )
 
 -- an assignment whose fetch failed
-pub assign-unfetched : (r : Result (Unit {0}) EngineFault) (f : EngineFault) (given : Given)
-    (h h' : List Event) (p : ℕ) (told : Bool) (kept : ℕ → Commit) → r ≡ Err f
-    → assign_refusal given h p ≡ None → (f ≡ NoMemory) ⊎ (f ≡ Client LinkFailed) → h' ≡ h
-    → (c : Commit) × (told ≡ true → c ≡ kept p) × Does r
-    (assign_step given h p (link_failed r) c) h h'
-assign-unfetched r f given h h' p told kept was none (inl is) same =
-    assign-unmade r given h h' p told kept (was ∙ ap (λ (x : EngineFault). Err x) is) same
-assign-unfetched r f given h h' p told kept was none (inr is) same = (
-  kept p,
-  λ told. refl,
-  subst (λ (x : Result (Unit {0}) EngineFault). Does x (assign_step given h p (link_failed x)
-      (kept p)) h h') (sym (was ∙ ap (λ (x : EngineFault). Err x) is)) (rw none (refl, same)),
+pub assign-unfetched : (r : Result (Unit {0}) EngineFault) (f : ClientFault) (given : Given)
+    (h h' : List Event) (p : ℕ) (told : Bool) (b : Broker) → r ≡ Err (engine_fault_of f)
+    → assign_refusal given h p ≡ None → (told ≡ true → FetchGives b p (Err f)) → h' ≡ h
+    → (outcome : Result Commit ClientFault)
+    × (told ≡ true → FetchGives b p outcome) × Does r (assign_step given h p outcome) h h'
+assign-unfetched r f given h h' p told b was none gives same = (
+  Err f,
+  gives,
+  subst (λ (x : Result (Unit {0}) EngineFault). Does x (assign_step given h p (Err f)) h h') (sym was)
+      (rw none (does-refuses (engine_fault_of f) h h' same)),
+)
+
+-- an assignment whose map does not read
+pub assign-misread : (r : Result (Unit {0}) EngineFault) (f : EngineFault) (given : Given)
+    (h h' : List Event) (p : ℕ) (told : Bool) (b : Broker) (stored : Commit) (rule : BadMapRule)
+    → r ≡ Err f → assign_refusal given h p ≡ None → (told ≡ true → FetchGives b p (Ok stored))
+    → rule ≡ given.setup.bad_map
+    → (f ≡ NoMemory) ⊎ ((m : MapFault) × (f ≡ BadMap m) × (map_refusal rule stored ≡ Some m))
+    → h' ≡ h
+    → (outcome : Result Commit ClientFault)
+    × (told ≡ true → FetchGives b p outcome) × Does r (assign_step given h p outcome) h h'
+assign-misread r f given h h' p told b stored rule was none gives same_rule (inl is) same =
+    assign-unmade r given h h' p told b (was ∙ ap (λ (x : EngineFault). Err x) is) same
+assign-misread r f given h h' p told b stored rule was none gives same_rule (inr bad) same = (
+  Ok stored,
+  gives,
+  subst (λ (x : Result (Unit {0}) EngineFault). Does x (assign_step given h p (Ok stored)) h h')
+      (sym (was ∙ ap (λ (x : EngineFault). Err x) bad.1))
+      (rw (none, ← same_rule, bad.2) (refl, same)),
 )
 
 -- an epoch begins or ends with an event
@@ -328,7 +357,7 @@ pub assign-does : (setup : Setup) (n : ℕ) (h : List Event) (told : Bool) (kept
     ≡ None → epoch ≡ epoch_of h p
     → h' ≡ Assign p (epoch + 1) stored.position stored.map ∷ h
     → Does {A = Unit {0}} (Ok tt)
-    (assign_step (given_by setup n h told kept) h p false stored) h h'
+    (assign_step (given_by setup n h told kept) h p (Ok stored)) h h'
 assign-does setup n h told kept p epoch stored h' none reads is after =
     rw (none, reads) (
       refl,
@@ -359,7 +388,7 @@ IsEngine-start setup n told kept parts few is =
           (sym (get_or-replicate n p fresh d
           (subst (λ (m : ℕ). p < m)
           (ap length is ∙ length-replicate {A = PartState} n fresh) below)))
-          (record { epoch = refl; held = refl; begin = λ held. cc }));
+          (record { epoch = refl; held = refl; begin = λ held. cc; small = omega arith }));
       limit = omega arith;
       no_jobs = refl;
       runs = refl;
@@ -405,7 +434,7 @@ module _ (setup : Setup) (h : List Event) (told : Bool) (kept : ℕ → Commit) 
   module _ (p : ℕ) (stored : Commit) (kept' : ℕ → Commit)
       (may : MayAssign (given_by setup (length parts) h told kept) h p)
       (gave : told ≡ true → stored ≡ kept p) (keeps_all : told ≡ true →
-      (q : ℕ) → kept' q ≡ kept q) where
+      (q : ℕ) → kept' q ≡ kept q) (small : stored.position < 2 ^ 63) where
     first_assigned-assign : told ≡ true → (q : ℕ)
         → unwrap_or (first_assigned (Assign p (epoch_of h p + 1) stored.position stored.map ∷ h) q)
         (kept' q) ≡ unwrap_or (first_assigned h q) (kept q)
@@ -451,6 +480,7 @@ module _ (setup : Setup) (h : List Event) (told : Bool) (kept : ℕ → Commit) 
             begin = λ held. sym (ap (λ (c : Commit). c.position)
                 (assigned_commit-assign (given_by setup (length parts) h told kept) h p
                 (epoch_of h p + 1) stored.position stored.map));
+            small = small;
           }))
       | inr apart ↦
           let other : q ≡ p → ⊥ = λ (e : q ≡ p). true-not-false (p == q)
@@ -464,6 +494,7 @@ module _ (setup : Setup) (h : List Event) (told : Bool) (kept : ℕ → Commit) 
                 (record { position = stored.position; map = stored.map })) None)
                 (assigned_commit h q)).position)
                 (sym apart) (before.begin (rw apart at held));
+            small = before.small;
           })
     ]
 
@@ -533,6 +564,7 @@ module _ (setup : Setup) (h : List Event) (told : Bool) (kept : ℕ → Commit) 
         begin = λ held. subst (λ (o : Option Commit). (get_or parts q d).begin
             ≡ (unwrap_or o (assigned_commit h q)).position) (sym (quiet q).0)
             (before.begin (rw (quiet q).1 at held));
+        small = before.small;
       };
       limit = let fits : length h + 1 ≤ 4000000 = room-limit h may.room in omega arith;
       no_jobs = no_job ∙ keeps.no_jobs;
@@ -549,7 +581,7 @@ module _ (setup : Setup) (h : List Event) (told : Bool) (kept : ℕ → Commit) 
     (kept' : ℕ → Commit) (told' : Bool)
     (s d : PartState) (held_before : List Event) (h' : List Event)
     (gave : told ≡ true → stored ≡ kept p) (keeps_all : told ≡ true → (q : ℕ) → kept' q ≡ kept q)
-    (same_told : told' ≡ told)
+    (small : stored.position < 2 ^ 63) (same_told : told' ≡ told)
     (was : s ≡ get_or parts p d) (reserved : held_before ≡ h)
     (pushed : h' ≡ Assign p (s.epoch + 1) stored.position stored.map ∷ held_before) where
   may : MayAssign (given_by setup (length parts) h told kept) h p
@@ -568,7 +600,7 @@ module _ (setup : Setup) (h : List Event) (told : Bool) (kept : ℕ → Commit) 
       { epoch = s.epoch + 1; is_held = true; begin = stored.position }))) h' told' kept'
       ≡ given_by setup (length parts) h told kept
   assigned-given = rw (after, same_told, length-set)
-      (given_by-assign setup h told kept parts keeps p stored kept' may gave keeps_all)
+      (given_by-assign setup h told kept parts keeps p stored kept' may gave keeps_all small)
 
   pub assigned-keeps : IsEngine
       (given_by setup (length (set parts p
@@ -576,17 +608,12 @@ module _ (setup : Setup) (h : List Event) (told : Bool) (kept : ℕ → Commit) 
       kept') kept'
       (set parts p (record { epoch = s.epoch + 1; is_held = true; begin = stored.position })) h'
   assigned-keeps = rw (after, same_told, epoch, length-set)
-      (IsEngine-assign setup h told kept parts keeps p stored kept' may gave keeps_all)
+      (IsEngine-assign setup h told kept parts keeps p stored kept' may gave keeps_all small)
 
-  pub assigned-does : map_refusal setup.bad_map stored ≡ None
-      → (c : Commit) × (told ≡ true → c ≡ kept p) × Does {A = Unit {0}} (Ok tt)
-      (assign_step (given_by setup (length parts) h told kept) h p false c) h h'
-  assigned-does reads = (
-    stored,
-    gave,
-    assign-does setup (length parts) h told kept p
-        (epoch_of h p) stored h' none reads refl after,
-  )
+  pub assigned-does : map_refusal setup.bad_map stored ≡ None → Does {A = Unit {0}} (Ok tt)
+      (assign_step (given_by setup (length parts) h told kept) h p (Ok stored)) h h'
+  assigned-does reads = assign-does setup (length parts) h told kept p
+      (epoch_of h p) stored h' none reads refl after
 
 -- ---- a commit that was stored or failed, as its calls tell it
 
@@ -598,10 +625,68 @@ failed-other : (b : Bool) (c : Commit) (cs : List Commit) → b ≡ false → st
     (cond b (Some c) None) cs ≡ cs
 failed-other b c cs is = rw is refl
 
+-- the part has this commit now, and each other part the one that it had
+pub record KeepsAt (before after : ℕ → Commit) (part : ℕ) (commit : Commit) : Type 0 where
+  pub changed : after part ≡ commit
+  pub others : (q : ℕ) → (q ≡ part → ⊥) → after q ≡ before q
+
+-- the part has this commit now or the one that it had, and each other part the one that it had
+abbrev pub MayKeepAt : (ℕ → Commit) → (ℕ → Commit) → ℕ → Commit → Type 0
+MayKeepAt before after part commit = ((q : ℕ) → after q ≡ before q) ⊎ KeepsAt before after part commit
+
 keeps-others : (kept kept' : ℕ → Commit) (p : ℕ) (c : Commit) → MayKeepAt kept kept' p c → (q : ℕ) →
     (q ≡ p → ⊥) → kept' q ≡ kept q
 keeps-others kept kept' p c (inl all) q other = all q
 keeps-others kept kept' p c (inr at) q other = at.others q other
+
+apart-eqb : (a b : ℕ) → (a ≡ b → ⊥) → (a == b) ≡ false
+apart-eqb a b other = elim (cases_Bool (a == b)) [
+  | inl same ↦ absurd (other (eqb-true a b same))
+  | inr apart ↦ apart
+]
+
+-- an accepted commit is the one that is kept for its part
+pub kept_for-accepts : (b b' : Broker) (p : ℕ) (c : Commit) → Accepts b b' p c
+    → KeepsAt (kept_for b) (kept_for b') p c
+kept_for-accepts b b' p c accepts = rw accepts.stored (record {
+  changed = rw (same_number p) refl;
+  others = λ q other. let apart : (p == q) ≡ false = apart-eqb p q (λ (e : p ≡ q). other (sym e)) in
+      rw apart refl;
+})
+
+other-test : (a : Bool) (may : ℕ → Bool) (p q : ℕ) → may p ≡ true → (a && may q) ≡ false
+    → (a && (p == q)) ≡ false
+other-test false known p q is out = refl
+other-test true known p q is out = apart-eqb p q
+    (λ (e : p ≡ q). true-not-false (known q) (ap known (sym e) ∙ is) out)
+
+-- the store changed for that part alone
+pub stores_only-accepts : (may : ℕ → Bool) (b b' : Broker) (p : ℕ) (c : Commit) → may p ≡ true
+    → Accepts b b' p c → StoresOnly may b b'
+stores_only-accepts may b b' p c is accepts = rw accepts.stored (record {
+  topic = refl;
+  parts = refl;
+  memberships = refl;
+  others = λ group q out. rw (other-test (bytes_eq GROUP group) may p q is out) refl;
+})
+
+pub stores_only-same : (may : ℕ → Bool) (b b' : Broker) → b' ≡ b → StoresOnly may b b'
+stores_only-same may b b' same = rw same (record {
+  topic = refl;
+  parts = refl;
+  memberships = refl;
+  others = λ group q out. refl;
+})
+
+-- what may be stored after a commit that failed
+pub may_keep-failed : (b b' : Broker) (p : ℕ) (c : Commit) (f : ClientFault)
+    → CommitGives b b' p c (Err f) → MayKeepAt (kept_for b) (kept_for b') p c
+may_keep-failed b b' p c client.LinkFailed (inl same) = inl (λ (q : ℕ). ap (λ (x : Broker). kept_for x q) same)
+may_keep-failed b b' p c client.LinkFailed (inr accepts) = inr (kept_for-accepts b b' p c accepts)
+may_keep-failed b b' p c (client.Refused code) refuses = inl (λ (q : ℕ). ap (λ (x : Broker). kept_for x q) refuses.same)
+may_keep-failed b b' p c client.NoMemory same = inl (λ (q : ℕ). ap (λ (x : Broker). kept_for x q) same)
+may_keep-failed b b' p c (client.BadReply fault) gives = absurd gives
+may_keep-failed b b' p c (client.OtherReply asked got) gives = absurd gives
 
 module _ (setup : Setup) (h : List Event) (told : Bool) (kept : ℕ → Commit) (parts : List PartState)
     (keeps : IsEngine (given_by setup (length parts) h told kept) kept parts h) (p : ℕ)
@@ -629,13 +714,10 @@ module _ (setup : Setup) (h : List Event) (told : Bool) (kept : ℕ → Commit) 
   lawful : CommitIsLawful (given_by setup (length parts) h told kept) h p s.begin text 0
   lawful = record { held = may_c.held; commit_is = commit-is }
 
-  pub commit-stored : told ≡ true → KeepsAt kept kept' p (record { position = s.begin; map = text })
-      → KeepsAt kept kept' p (commit_of (given_by setup (length parts) h told kept) h p).commit
-  commit-stored is at = rw commit-is at
-
-  pub commit-may : told ≡ true → MayKeepAt kept kept' p (record { position = s.begin; map = text })
-      → MayKeepAt kept kept' p (commit_of (given_by setup (length parts) h told kept) h p).commit
-  commit-may is at = rw commit-is at
+  pub commit-gives : (b b' : Broker) (outcome : Result (Unit {0}) ClientFault)
+      → CommitGives b b' p (record { position = s.begin; map = text }) outcome
+      → CommitGives b b' p (commit_of (given_by setup (length parts) h told kept) h p).commit outcome
+  commit-gives b b' outcome gives = rw commit-is gives
 
   module _ (put : told ≡ true → KeepsAt kept kept' p (record { position = s.begin; map = text }))
       (pushed : h' ≡ Committed p s.begin text 0 ∷ held_before) where
@@ -670,7 +752,7 @@ module _ (setup : Setup) (h : List Event) (told : Bool) (kept : ℕ → Commit) 
         (λ q. (refl, refl)) refl refl refl lawful others_c stored_c)
 
     pub committed-does : Does (Ok (record { position = s.begin; size = 0 }))
-        (commit_step (given_by setup (length parts) h told kept) h p false) h h'
+        (commit_step (given_by setup (length parts) h told kept) h p (Ok tt)) h h'
     committed-does = rw (none, commit-is) (refl, after_c)
 
   module _ (put : told ≡ true → MayKeepAt kept kept' p (record { position = s.begin; map = text }))
@@ -720,6 +802,61 @@ module _ (setup : Setup) (h : List Event) (told : Bool) (kept : ℕ → Commit) 
         (IsEngine-commit setup h told kept parts keeps p (CommitFailed p s.begin text 0) kept' may_c
         (λ q. (refl, refl)) refl refl refl lawful others_f stored_f)
 
-    pub failed-does : Does {A = Receipt} (Err (Client LinkFailed))
-        (commit_step (given_by setup (length parts) h told kept) h p true) h h'
-    failed-does = rw (none, commit-is) (refl, after_f)
+    pub failed-does : (f : ClientFault) → Does {A = Receipt} (Err (Client f))
+        (commit_step (given_by setup (length parts) h told kept) h p (Err f)) h h'
+    failed-does f = rw (none, commit-is) (refl, after_f)
+
+-- ---- what is said of a commit
+
+pub same-failure : (f g : ClientFault) → ◌≡◌ {A = Result Receipt EngineFault} (Err (Client f)) (Err (Client g))
+    → ◌≡◌ {A = Result (Unit {0}) ClientFault} (Err f) (Err g)
+same-failure f g is = cc
+
+pub refused-not : (o : Option EngineFault) (f : EngineFault) → o ≡ None → o ≡ Some f → ⊥
+refused-not o f none some = cc
+
+does-refused_commit : (o : Option EngineFault) (f : EngineFault) (given : Given) (h h' : List Event)
+    (p : ℕ) (outcome : Result (Unit {0}) ClientFault) → ◌≡◌ {A = Result (Unit {0}) EngineFault}
+    (Err f) (refused_by o) → h' ≡ h
+    → Does {A = Receipt} (Err f) (commit_after given h p outcome o) h h'
+does-refused_commit None f given h h' p outcome is same = absurd (not-ok f is)
+does-refused_commit (Some g) f given h h' p outcome is same =
+    subst (λ (x : EngineFault). Does {A = Receipt} (Err f) (refuses x) h h') (fault-is f g is)
+    (does-refuses_receipt f h h' same)
+
+-- a commit that is refused before the link is asked
+pub commit-refused : (r : Result Receipt EngineFault) (f : EngineFault) (given : Given)
+    (h h' : List Event) (p : ℕ) (told : Bool) (b b' : Broker) → r ≡ Err f
+    → ◌≡◌ {A = Result (Unit {0}) EngineFault} (Err f) (refused_by (commit_refusal given h p))
+    → b' ≡ b → h' ≡ h
+    → (outcome : Result (Unit {0}) ClientFault)
+    × (told ≡ true → CommitGives b b' p (commit_of given h p).commit outcome)
+    × Does r (commit_step given h p outcome) h h'
+commit-refused r f given h h' p told b b' was is stays same = (
+  Err client.NoMemory,
+  λ told. stays,
+  subst (λ (x : Result Receipt EngineFault). Does x (commit_step given h p (Err client.NoMemory)) h h') (sym was)
+      (does-refused_commit (commit_refusal given h p) f given h h' p (Err client.NoMemory) is same),
+)
+
+-- a commit for which there was no memory
+pub commit-unmade : (r : Result Receipt EngineFault) (given : Given)
+    (h h' : List Event) (p : ℕ) (told : Bool) (b b' : Broker) → r ≡ Err NoMemory → b' ≡ b → h' ≡ h
+    → (outcome : Result (Unit {0}) ClientFault)
+    × (told ≡ true → CommitGives b b' p (commit_of given h p).commit outcome)
+    × Does r (commit_step given h p outcome) h h'
+commit-unmade r given h h' p told b b' was stays same = (
+  Err client.NoMemory,
+  λ told. stays,
+  subst (λ (x : Result Receipt EngineFault). Does x (commit_step given h p (Err client.NoMemory)) h h') (sym was) same,
+)
+
+-- what a broker stores after a commit failed
+pub stores_only-failed : (may : ℕ → Bool) (b b' : Broker) (p : ℕ) (c : Commit) (f : ClientFault)
+    → may p ≡ true → CommitGives b b' p c (Err f) → StoresOnly may b b'
+stores_only-failed known b b' p c client.LinkFailed is (inl same) = stores_only-same known b b' same
+stores_only-failed known b b' p c client.LinkFailed is (inr accepts) = stores_only-accepts known b b' p c is accepts
+stores_only-failed known b b' p c (client.Refused code) is refuses = stores_only-same known b b' refuses.same
+stores_only-failed known b b' p c client.NoMemory is same = stores_only-same known b b' same
+stores_only-failed known b b' p c (client.BadReply fault) is gives = absurd gives
+stores_only-failed known b b' p c (client.OtherReply asked got) is gives = absurd gives

@@ -1,6 +1,6 @@
 -- The exact effect of an engine's calls: the first refusal, or else the lawful event with its
 -- values.
-use Rattle.std.specs.Prelude.{ℕ, ◌+◌, ◌≡◌, Bool, true, false, not, nat_lt, if◌then◌else◌, List, [], ◌∷◌, ◌++◌, length, Option, Some, None, Result, Ok, Err}
+use Rattle.std.specs.Prelude.{ℕ, ◌+◌, ◌≡◌, Bool, false, not, ◌&&◌, nat_lt, if◌then◌else◌, bytes_eq, List, [], ◌∷◌, ◌++◌, length, Option, Some, None, Result, Ok, Err}
 use Rattle.pc_model.specs.declared.choices.BadMapRule.{BadMapRule}
 use Rattle.pc_model.specs.declared.choices.BadMapRule.TheVariants.{Redo, Refuse}
 use Rattle.pc_model.specs.declared.commit.Commit.{Commit}
@@ -13,9 +13,11 @@ use Rattle.pc_model.specs.Given.{Given, has_log}
 use Rattle.pc_model.specs.Jobs.{has_ended, is_draining, open_jobs}
 use Rattle.pc_model.specs.Epochs.{epoch_of, is_held}
 use Rattle.pc_model.specs.Known.{commit_of}
-use Rattle.pc_world.specs.World.{KeepsAll, KeepsAt, MayKeepAt}
+use Rattle.pc_model.specs.Broker.{Broker, stored_for}
+use Rattle.pc_offset_client.specs.Client.{GROUP}
+use Rattle.pc_offset_client.specs.declared.fault.ClientFault.{ClientFault}
+use Rattle.pc_engine.specs.Fault.{engine_fault_of}
 use Rattle.pc_engine.specs.declared.engine.Committed.{Committed as Receipt}
-use Rattle.pc_engine.specs.declared.client.ClientFault.TheVariants.{LinkFailed}
 use Rattle.pc_engine.specs.declared.fault.EngineFault.{EngineFault}
 use Rattle.pc_engine.specs.declared.fault.EngineFault.TheVariants.{Closed, UnknownPart, AlreadyHeld, NotHeld, Draining, JournalFull, Client, BadMap, NoMemory}
 
@@ -32,11 +34,6 @@ refuses fault = record { answer = Err fault; events = [] }
 abbrev pub Does : {A : Type 0} → Result A EngineFault → Step A → List Event → List Event → Type 0
 Does (Err NoMemory) step before after = after ≡ before
 Does result step before after = (result ≡ step.answer) × (after ≡ step.events ++ before)
-
--- whether the answer says that the link failed
-abbrev pub link_failed : {A : Type 0} → Result A EngineFault → Bool
-link_failed (Err (Client LinkFailed)) = true
-link_failed _ = false
 
 -- whether so many more events, with those kept for the jobs that are out, pass 4,000,000
 abbrev pub is_full : List Event → ℕ → Bool
@@ -75,17 +72,16 @@ assign_with h p stored None = record
     { answer = Ok tt; events = Assign p (epoch_of h p + 1) stored.position stored.map ∷ [] }
 assign_with h p stored (Some fault) = refuses (BadMap fault)
 
--- an assignment, where the link failed, or gave what is stored
-abbrev pub assign_after : Given → List Event → ℕ → Bool → Commit → Option EngineFault → Step
-    (Unit {0})
-assign_after given h p failed stored (Some fault) = refuses fault
-assign_after given h p true stored None = refuses (Client LinkFailed)
-assign_after given h p false stored None = assign_with h p stored
+-- an assignment, by what the link's client answered
+abbrev pub assign_after : Given → List Event → ℕ → Result Commit ClientFault → Option EngineFault
+    → Step (Unit {0})
+assign_after given h p outcome (Some fault) = refuses fault
+assign_after given h p (Err failed) None = refuses (engine_fault_of failed)
+assign_after given h p (Ok stored) None = assign_with h p stored
     (map_refusal given.setup.bad_map stored)
 
-abbrev pub assign_step : Given → List Event → ℕ → Bool → Commit → Step (Unit {0})
-assign_step given h p failed stored = assign_after given h p failed stored
-    (assign_refusal given h p)
+abbrev pub assign_step : Given → List Event → ℕ → Result Commit ClientFault → Step (Unit {0})
+assign_step given h p outcome = assign_after given h p outcome (assign_refusal given h p)
 
 -- ---- commit
 
@@ -99,27 +95,31 @@ commit_refusal given h p =
     else None
 
 -- the part's commit as it stands, stored or failed
-abbrev pub commit_with : ℕ → SizedCommit → Bool → Step Receipt
-commit_with p c true = record {
-  answer = Err (Client LinkFailed);
+abbrev pub commit_with : ℕ → SizedCommit → Result (Unit {0}) ClientFault → Step Receipt
+commit_with p c (Err failed) = record {
+  answer = Err (Client failed);
   events = CommitFailed p c.commit.position c.commit.map c.size ∷ [];
 }
-commit_with p c false = record {
+commit_with p c (Ok done) = record {
   answer = Ok (record { position = c.commit.position; size = c.size });
   events = Committed p c.commit.position c.commit.map c.size ∷ [];
 }
 
-abbrev pub commit_after : Given → List Event → ℕ → Bool → Option EngineFault → Step Receipt
-commit_after given h p failed (Some fault) = refuses fault
-commit_after given h p failed None = commit_with p (commit_of given h p) failed
+-- a commit, by what the link's client answered
+abbrev pub commit_after : Given → List Event → ℕ → Result (Unit {0}) ClientFault
+    → Option EngineFault → Step Receipt
+commit_after given h p outcome (Some fault) = refuses fault
+commit_after given h p outcome None = commit_with p (commit_of given h p) outcome
 
--- what a link that tells it keeps after a commit of the part: the commit, or after a failed one that
--- or what it kept, or else what it kept
-abbrev pub KeepsAfter : Result Receipt EngineFault → (ℕ → Commit) → (ℕ → Commit) → ℕ → Commit
-    → Type 0
-KeepsAfter (Ok receipt) before after p c = KeepsAt before after p c
-KeepsAfter (Err (Client LinkFailed)) before after p c = MayKeepAt before after p c
-KeepsAfter (Err fault) before after p c = KeepsAll before after
+abbrev pub commit_step : Given → List Event → ℕ → Result (Unit {0}) ClientFault → Step Receipt
+commit_step given h p outcome = commit_after given h p outcome (commit_refusal given h p)
 
-abbrev pub commit_step : Given → List Event → ℕ → Bool → Step Receipt
-commit_step given h p failed = commit_after given h p failed (commit_refusal given h p)
+-- ---- the store of a link that tells it
+
+-- What a broker stores changed for those parts of the client's group alone.
+pub record StoresOnly (may : ℕ → Bool) (before after : Broker) : Type 0 where
+  pub topic : after.topic ≡ before.topic
+  pub parts : after.parts ≡ before.parts
+  pub memberships : after.memberships ≡ before.memberships
+  pub others : (group : List ℕ) (q : ℕ) → (bytes_eq GROUP group && may q) ≡ false
+      → stored_for after group q ≡ stored_for before group q

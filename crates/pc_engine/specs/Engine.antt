@@ -1,5 +1,5 @@
 -- An engine as clauses see it, and what its type keeps.
-use Rattle.std.specs.Prelude.{ℕ, ◌≡◌, ◌≤◌, ◌<◌, Bool, true, false, if◌then◌else◌, List, [], ◌∷◌, map, length, replicate, Option, Some, None, slice_index_or, unwrap_or}
+use Rattle.std.specs.Prelude.{ℕ, ◌≡◌, ◌≤◌, ◌<◌, ◌^◌, Bool, true, false, if◌then◌else◌, List, [], ◌∷◌, map, length, replicate, Option, Some, None, slice_index_or, unwrap_or}
 use Rattle.std.specs.List.{range_with_len}
 use Rattle.std.specs.Option.{option_or}
 use Rattle.pc_model.specs.declared.setup.Setup.{Setup}
@@ -17,10 +17,10 @@ use Rattle.pc_laws.specs.Lists.{In}
 use Rattle.pc_engine.specs.declared.part.PartState.{PartState}
 
 -- an engine: what it was given, its journal, and its link
-pub record EngineView (K : Type 0) : Type 0 where
+pub record EngineView (L : Type 0) : Type 0 where
   pub given : Given
   pub journal : History
-  pub link : K
+  pub link : L
 
 -- the commit of the part's first assignment, if there was one
 abbrev pub first_assigned : List Event → ℕ → Option Commit
@@ -51,6 +51,7 @@ pub record PartKeeps (h : List Event) (p : ℕ) (part : PartState) : Type 0 wher
   pub epoch : part.epoch ≡ epoch_of h p
   pub held : part.is_held ≡ is_held h p
   pub begin : is_held h p ≡ true → part.begin ≡ begin_of h p
+  pub small : part.begin < 2 ^ 63
 
 -- what an engine's type keeps: the history is legal, a told link has one of the commits that may
 -- be stored for each part, and each part's state is that of the history

@@ -1,2 +1,3 @@
+pub mod Fault
 pub mod Effect
 pub mod Engine

@@ -1,18 +1,16 @@
 //! The engine. Clauses see what it was given, its journal, and its link.
 
-ghost use Rattle.std.specs.Prelude.{◌≡◌, ◌≤◌, ◌⊎◌, true, IfOk, IfErr, OnOk, Err, Some, None};
+ghost use Rattle.std.specs.Prelude.{◌≡◌, ◌⊎◌, IfErr, OnOk, Some, None};
 ghost use Rattle.pc_model.specs.declared.map_fault.MapFault.{MapFault};
-ghost use Rattle.pc_world.specs.World.{HasRisen, KeepsAll};
 ghost use Rattle.pc_engine.specs.Effect.{map_refusal};
-ghost use Rattle.pc_engine.specs.declared.client.ClientFault.TheVariants.{LinkFailed};
-ghost use Rattle.pc_engine.specs.declared.fault.EngineFault.TheVariants.{NoMemory, Client, BadMap};
+ghost use Rattle.pc_engine.specs.declared.fault.EngineFault.TheVariants.{NoMemory, BadMap};
 
-use crate::client::ClientFault;
 use crate::fault::EngineFault;
 use crate::part::PartState;
 use pc_model::{BadMapRule, Commit as StoredCommit, Event, Journal, MapFault, MapText, Setup};
+use pc_offset_client::{Client, ClientFault};
 use pc_offset_map::read_map;
-use pc_world::{Keeper, KeeperFault};
+use pc_world::Link;
 use std::alloc::Global;
 use std::marker::Model;
 
@@ -29,54 +27,57 @@ pub struct Committed {
 }
 
 /// The core over one link.
-pub struct Engine<'a, K: Keeper> {
+pub struct Engine<'a, L: Link> {
     alloc: Global,
     setup: &'a Setup,
     parts: Vec<PartState>,
     journal: Journal,
-    link: K,
+    client: Client<L>,
 }
 
-impl<'a, K: Keeper> Model for Engine<'a, K> {
+impl<'a, L: Link> Model for Engine<'a, L> {
     ghost use Rattle.std.specs.Prelude.{length};
+    ghost use Rattle.pc_offset_client.specs.Client.{kept_for};
     ghost use Rattle.pc_engine.specs.Engine.{EngineView, IsEngine, given_by};
 
-    ghost Value = { EngineView K };
+    ghost Value = { EngineView L };
 
     ghost view = { λ e. record {
-      given = given_by e.setup.now (length e.parts.items) e.journal.events (K.is_told e.link)
-          (K.kept e.link);
+      given = given_by e.setup.now (length e.parts.items) e.journal.events
+          (L.is_told e.client.link) (kept_for (L.store e.client.link));
       journal = e.journal;
-      link = e.link;
+      link = e.client.link;
     } };
 
     ghost invariant = { λ e. IsEngine
-        (given_by e.setup.now (length e.parts.items) e.journal.events (K.is_told e.link)
-        (K.kept e.link))
-        (K.kept e.link) e.parts.items e.journal.events };
+        (given_by e.setup.now (length e.parts.items) e.journal.events (L.is_told e.client.link)
+        (kept_for (L.store e.client.link)))
+        (kept_for (L.store e.client.link)) e.parts.items e.journal.events };
 }
 
-impl<'a, K: Keeper> Engine<'a, K> {
-    ghost use Rattle.std.specs.Prelude.{◌≡◌, ◌≤◌, ℕ, true, [], IfOk, IfErr, OnOk, OnErr, Err, Ok, Some, if◌then◌else◌};
+impl<'a, L: Link> Engine<'a, L> {
+    ghost use Rattle.std.specs.Prelude.{◌≡◌, ◌≤◌, ℕ, true, [], IfOk, IfErr, OnOk, OnErr, Err, Ok, Some, Result, if◌then◌else◌};
     ghost use Rattle.pc_model.specs.declared.commit.Commit.{Commit};
     ghost use Rattle.pc_model.specs.Known.{commit_of};
-    ghost use Rattle.pc_engine.specs.declared.client.ClientFault.TheVariants.{LinkFailed};
+    ghost use Rattle.pc_offset_client.specs.declared.fault.ClientFault.{ClientFault};
+    ghost use Rattle.pc_offset_client.specs.declared.fault.ClientFault.TheVariants.{LinkFailed};
+    ghost use Rattle.pc_offset_client.specs.Client.{CommitGives, FetchGives, kept_for};
     ghost use Rattle.pc_engine.specs.declared.fault.EngineFault.{EngineFault};
-    ghost use Rattle.pc_engine.specs.declared.fault.EngineFault.TheVariants.{Client};
-    ghost use Rattle.pc_world.specs.World.{HasRisen, KeepsAll};
+    ghost use Rattle.pc_engine.specs.declared.fault.EngineFault.TheVariants.{Client as Failed};
+    ghost use Rattle.pc_world.specs.World.{HasRisen};
     ghost use Rattle.pc_model.specs.Given.{has_log};
     ghost use Rattle.pc_model.specs.Lawful.{IsLegal};
     ghost use Rattle.pc_model.specs.Stored.{may_store};
     ghost use Rattle.pc_laws.specs.Lists.{In};
-    ghost use Rattle.pc_engine.specs.Effect.{Does, KeepsAfter, assign_refusal, assign_step, commit_refusal, commit_step, is_full, link_failed, refused_by};
+    ghost use Rattle.pc_engine.specs.Effect.{Does, StoresOnly, assign_refusal, assign_step, commit_refusal, commit_step, is_full, refused_by};
     ghost use Rattle.pc_engine.specs.Engine.{given_by};
 
     /// An engine over so many parts, each with an empty log. The error is want of memory and gives
     /// the link back.
-    pub fn start(alloc: Global, setup: &'a Setup, parts: u32, link: K) -> Result<Engine<'a, K>, K>
+    pub fn start(alloc: Global, setup: &'a Setup, parts: u32, link: L) -> Result<Engine<'a, L>, L>
         requires { parts ≤ 1024 }
         ensures given { IfOk result
-            (λ e. e.given ≡ given_by setup.now parts [] (K.is_told link) (K.kept link)) }
+            (λ e. e.given ≡ given_by setup.now parts [] (L.is_told link) (kept_for (L.store link))) }
         ensures empty { IfOk result (λ e. e.journal.events ≡ []) }
         ensures link { IfOk result (λ e. e.link ≡ link) }
         ensures back { IfErr result (λ l. l ≡ link) }
@@ -94,7 +95,7 @@ impl<'a, K: Keeper> Engine<'a, K> {
             setup,
             parts,
             journal: Journal::new(alloc),
-            link,
+            client: Client::new(alloc, link),
         })
     }
 
@@ -105,51 +106,51 @@ impl<'a, K: Keeper> Engine<'a, K> {
         &self.journal
     }
 
-    /// The journal and the link. The journal is legal, and a link that tells what it keeps has for
-    /// each part one of the commits that may be stored.
-    pub fn into_parts(self) -> (Journal, K)
+    /// The journal and the link. The journal is legal, and a link that tells its store has for each
+    /// part one of the commits that may be stored.
+    pub fn into_parts(self) -> (Journal, L)
         ensures journal { result.0 ≡ self.entry.journal }
         ensures link { result.1 ≡ self.entry.link }
-        ensures told { self.entry.given.is_told ≡ K.is_told self.entry.link }
+        ensures told { self.entry.given.is_told ≡ L.is_told self.entry.link }
         ensures legal { IsLegal self.entry.given self.entry.journal.events }
         ensures stored { self.entry.given.is_told ≡ true → (p : ℕ) → has_log self.entry.given p ≡ true
-            → In (K.kept self.entry.link p) (may_store self.entry.given self.entry.journal.events p) }
+            → In (kept_for (L.store self.entry.link) p) (may_store self.entry.given self.entry.journal.events p) }
     {
         let Engine {
             alloc: _,
             setup: _,
             parts: _,
             journal,
-            link,
+            client,
         } = self;
-        (journal, link)
+        (journal, client.into_link())
     }
 
-    /// Assigns the part: fetches the commit that the link keeps for it, and adds Assign with that.
+    /// Assigns the part: fetches the commit that is stored for it, and adds Assign with that.
     ///
     /// Refuses with `Closed`, `UnknownPart`, `Draining`, `AlreadyHeld`, `JournalFull`, `NoMemory`,
-    /// `Client` or `BadMap`, the first that applies. Over a link that does not tell what it keeps,
-    /// the commit is what the link gave.
+    /// `Client` or `BadMap`, the first that applies. Over a link that does not tell its store, the
+    /// commit is what the link gave.
     pub fn assign(&mut self, part: u32) -> Result<(), EngineFault>
-        ensures effect { (stored : Commit) × (K.is_told self.old.link ≡ true → stored ≡ K.kept
-            self.old.link part) × Does result
-            (assign_step self.old.given self.old.journal.events part (link_failed result) stored)
+        ensures effect { (outcome : Result Commit ClientFault) × (L.is_told self.old.link ≡ true
+            → FetchGives (L.store self.old.link) part outcome) × Does result
+            (assign_step self.old.given self.old.journal.events part outcome)
             self.old.journal.events self.new.journal.events }
         ensures refused { (fault : EngineFault) →
             assign_refusal self.old.given self.old.journal.events part ≡ Some fault
             → (result ≡ Err fault) × (self.new.journal.events ≡ self.old.journal.events) }
         ensures stays { OnErr result (self.new.journal.events ≡ self.old.journal.events) }
-        ensures cause { result ≡ Err (Client LinkFailed) → HasRisen (K.faults self.old.link)
-            (K.faults self.new.link) }
-        ensures keeps { K.is_told self.old.link ≡ true → KeepsAll (K.kept self.old.link)
-            (K.kept self.new.link) }
+        ensures cause { result ≡ Err (Failed LinkFailed) → HasRisen (L.faults self.old.link)
+            (L.faults self.new.link) }
+        ensures keeps { L.is_told self.old.link ≡ true
+            → L.store self.new.link ≡ L.store self.old.link }
         ensures given { self.new.given ≡ self.old.given }
-        ensures told { K.is_told self.new.link ≡ K.is_told self.old.link }
-        ensures count { K.faults self.old.link ≤ K.faults self.new.link }
+        ensures told { L.is_told self.new.link ≡ L.is_told self.old.link }
+        ensures count { L.faults self.old.link ≤ L.faults self.new.link }
     {
         self.may_assign(part)?;
         self.journal.reserve(1)?;
-        let stored = fetch(self.alloc, &mut self.link, part)?;
+        let stored = self.client.fetch(part)?;
         check_map(self.alloc, self.setup.bad_map, &stored)?;
         let at = part as usize;
         let epoch = self.parts[at].epoch + 1;
@@ -167,35 +168,36 @@ impl<'a, K: Keeper> Engine<'a, K> {
         Ok(())
     }
 
-    /// Commits the part: puts its commit on the link and adds Commit, or CommitFailed where the
-    /// link failed.
+    /// Commits the part: has its commit stored and adds Commit, or CommitFailed where the client
+    /// failed for another cause than memory.
     ///
     /// Refuses with `Closed`, `UnknownPart`, `NotHeld`, `JournalFull`, `NoMemory` or `Client`, the
     /// first that applies.
     pub fn commit(&mut self, part: u32) -> Result<Committed, EngineFault>
-        ensures effect { Does result
-            (commit_step self.old.given self.old.journal.events part (link_failed result))
+        ensures effect { (outcome : Result (Unit {0}) ClientFault) × (L.is_told self.old.link ≡ true
+            → CommitGives (L.store self.old.link) (L.store self.new.link) part
+            (commit_of self.old.given self.old.journal.events part).commit outcome) × Does result
+            (commit_step self.old.given self.old.journal.events part outcome)
             self.old.journal.events self.new.journal.events }
         ensures refused { (fault : EngineFault) →
             commit_refusal self.old.given self.old.journal.events part ≡ Some fault
             → (result ≡ Err fault) × (self.new.journal.events ≡ self.old.journal.events) }
-        ensures cause { result ≡ Err (Client LinkFailed) → HasRisen (K.faults self.old.link)
-            (K.faults self.new.link) }
-        ensures keeps { K.is_told self.old.link ≡ true → KeepsAfter result (K.kept self.old.link)
-            (K.kept self.new.link) part
-            (commit_of self.old.given self.old.journal.events part).commit }
+        ensures cause { result ≡ Err (Failed LinkFailed) → HasRisen (L.faults self.old.link)
+            (L.faults self.new.link) }
+        ensures others { L.is_told self.old.link ≡ true → StoresOnly (has_log self.old.given)
+            (L.store self.old.link) (L.store self.new.link) }
         ensures given { self.new.given ≡ self.old.given }
-        ensures told { K.is_told self.new.link ≡ K.is_told self.old.link }
-        ensures count { K.faults self.old.link ≤ K.faults self.new.link }
+        ensures told { L.is_told self.new.link ≡ L.is_told self.old.link }
+        ensures count { L.faults self.old.link ≤ L.faults self.new.link }
     {
         self.may_commit(part)?;
         self.journal.reserve(1)?;
         let position = self.parts[part as usize].begin;
         let commit = StoredCommit {
             position,
-            map: MapText::from_str(self.alloc, "")?,
+            map: MapText::empty(self.alloc),
         };
-        match self.link.put(part, &commit) {
+        match self.client.commit(part, &commit) {
             Ok(()) => {
                 self.journal.push(Event::Commit {
                     part,
@@ -205,16 +207,16 @@ impl<'a, K: Keeper> Engine<'a, K> {
                 });
                 Ok(Committed { position, size: 0 })
             }
-            Err(KeeperFault::Failed) => {
+            Err(ClientFault::NoMemory) => Err(EngineFault::NoMemory),
+            Err(fault) => {
                 self.journal.push(Event::CommitFailed {
                     part,
                     position,
                     map: commit.map,
                     size: 0,
                 });
-                Err(EngineFault::Client(ClientFault::LinkFailed))
+                Err(EngineFault::Client(fault))
             }
-            Err(KeeperFault::NoMemory) => Err(EngineFault::NoMemory),
         }
     }
 
@@ -254,23 +256,6 @@ impl<'a, K: Keeper> Engine<'a, K> {
         } else {
             Err(EngineFault::JournalFull)
         }
-    }
-}
-
-/// The commit that the link keeps for the part.
-fn fetch<K: Keeper>(alloc: Global, link: &mut K, part: u32) -> Result<StoredCommit, EngineFault>
-    ensures ok { K.is_told link.old ≡ true → IfOk result (λ commit. commit ≡ K.kept link.old part) }
-    ensures fault { IfErr result (λ e. (e ≡ NoMemory) ⊎ (e ≡ Client LinkFailed)) }
-    ensures cause { result ≡ Err (Client LinkFailed) → HasRisen (K.faults link.old)
-        (K.faults link.new) }
-    ensures keeps { K.is_told link.old ≡ true → KeepsAll (K.kept link.old) (K.kept link.new) }
-    ensures told { K.is_told link.new ≡ K.is_told link.old }
-    ensures count { K.faults link.old ≤ K.faults link.new }
-{
-    match link.get(alloc, part) {
-        Ok(commit) => Ok(commit),
-        Err(KeeperFault::Failed) => Err(EngineFault::Client(ClientFault::LinkFailed)),
-        Err(KeeperFault::NoMemory) => Err(EngineFault::NoMemory),
     }
 }
 

@@ -3,8 +3,8 @@
 ghost use Rattle.std.specs.Prelude.{◌≡◌};
 ghost use Rattle.pc_engine.specs.declared.fault.EngineFault.TheVariants.{NoMemory};
 
-use crate::client::ClientFault;
 use pc_model::MapFault;
+use pc_offset_client::ClientFault;
 use std::alloc::{AllocError, AllocFailed};
 
 /// Why the engine refused a call. After a refusal all is as before, but for a failed commit.
@@ -60,5 +60,18 @@ impl<T: Drop> From<AllocFailed<T>> for EngineFault {
 
     fn from(_e: AllocFailed<T>) -> EngineFault {
         EngineFault::NoMemory
+    }
+}
+
+impl From<ClientFault> for EngineFault {
+    ghost use Rattle.pc_engine.specs.Fault.{engine_fault_of};
+
+    ghost from_gives = { λ fault e. e ≡ engine_fault_of fault };
+
+    fn from(fault: ClientFault) -> EngineFault {
+        match fault {
+            ClientFault::NoMemory => EngineFault::NoMemory,
+            fault => EngineFault::Client(fault),
+        }
     }
 }

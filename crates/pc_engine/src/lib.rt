@@ -4,12 +4,10 @@
 //! parts and commits them.
 #![tactic(auto)]
 
-mod client;
 mod engine;
 mod fault;
 mod part;
 
-pub use client::{ClientFault, WireFault};
 pub use engine::{Committed, Engine};
 pub use fault::EngineFault;
 
