@@ -34,6 +34,7 @@ use Rattle.pc_model.specs.declared.choices.BadMapRule.{BadMapRule}
 use Rattle.pc_model.specs.declared.map_fault.MapFault.{MapFault}
 use Rattle.pc_offset_client.specs.declared.fault.ClientFault.{ClientFault}
 use Rattle.pc_offset_client.specs.declared.fault.ClientFault.TheVariants as client
+use Rattle.pc_model.proofs.BrokerLaws.{stored_for-with_stored}
 use Rattle.pc_model.specs.Broker.{Broker}
 use Rattle.pc_offset_client.specs.Client.{CommitGives, FetchGives, Accepts, GROUP, kept_for}
 use Rattle.pc_engine.specs.Fault.{engine_fault_of}
@@ -649,9 +650,9 @@ apart-eqb a b other = elim (cases_Bool (a == b)) [
 pub kept_for-accepts : (b b' : Broker) (p : ℕ) (c : Commit) → Accepts b b' p c
     → KeepsAt (kept_for b) (kept_for b') p c
 kept_for-accepts b b' p c accepts = rw accepts.stored (record {
-  changed = rw (same_number p) refl;
+  changed = rw (stored_for-with_stored b GROUP p c GROUP p, same_number p) refl;
   others = λ q other. let apart : (p == q) ≡ false = apart-eqb p q (λ (e : p ≡ q). other (sym e)) in
-      rw apart refl;
+      rw (stored_for-with_stored b GROUP p c GROUP q, apart) refl;
 })
 
 other-test : (a : Bool) (may : ℕ → Bool) (p q : ℕ) → may p ≡ true → (a && may q) ≡ false
@@ -663,15 +664,15 @@ other-test true known p q is out = apart-eqb p q
 -- the store changed for that part alone
 pub stores_only-accepts : (may : ℕ → Bool) (b b' : Broker) (p : ℕ) (c : Commit) → may p ≡ true
     → Accepts b b' p c → StoresOnly may b b'
-stores_only-accepts may b b' p c is accepts = rw accepts.stored (record {
+stores_only-accepts known b b' p c is accepts = rw accepts.stored (record {
   topic = refl;
   parts = refl;
   memberships = refl;
-  others = λ group q out. rw (other-test (bytes_eq GROUP group) may p q is out) refl;
+  others = λ group q out. rw (stored_for-with_stored b GROUP p c group q, other-test (bytes_eq GROUP group) known p q is out) refl;
 })
 
 pub stores_only-same : (may : ℕ → Bool) (b b' : Broker) → b' ≡ b → StoresOnly may b b'
-stores_only-same may b b' same = rw same (record {
+stores_only-same known b b' same = rw same (record {
   topic = refl;
   parts = refl;
   memberships = refl;

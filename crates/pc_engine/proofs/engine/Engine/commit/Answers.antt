@@ -11,7 +11,7 @@ use Rattle.pc_engine.specs.declared.fault.EngineFault.{EngineFault}
 use Rattle.pc_engine.specs.declared.fault.EngineFault.TheVariants.{Client}
 use Rattle.pc_engine.specs.Effect.{Does, StoresOnly, commit_step, commit_refusal}
 use Rattle.pc_engine.specs.Engine.{given_by}
-use Rattle.pc_engine.proofs.EngineLemmas.{refused-none, part-below, may_commit, commit-gives, committed-given, committed-keeps, committed-does, failed-given, failed-keeps, failed-does, kept_for-accepts, may_keep-failed, stores_only-failed, commit-refused, commit-unmade, same-failure, refused-not}
+use Rattle.pc_engine.proofs.EngineLemmas.{refused-none, part-below, may_commit, commit-gives, committed-given, committed-keeps, committed-does, failed-given, failed-keeps, failed-does, kept_for-accepts, may_keep-failed, stores_only-failed, stores_only-accepts, commit-refused, commit-unmade, same-failure, refused-not}
 use Rattle.pc_engine.proofs.engine.Engine.commit.Goals as goal
 
 pub returns-in_err-may_commit-clause-effect : goal.returns-in_err-may_commit-clause-effect
@@ -237,3 +237,13 @@ returns-in-Err g c =
       told = c.commit.ensures.told ∙ ap (λ v. g.L.Link.is_told v.link) c.self.view_is;
       count = subst (λ v. g.L.Link.faults v.link ≤ g.L.Link.faults c.commit.new.self.link) c.self.view_is c.commit.ensures.count;
     }
+
+pub returns-in-Ok-clause-others : goal.returns-in-Ok-clause-others
+returns-in-Ok-clause-others g c =
+    let none : commit_refusal c.args.self.now.given c.args.self.now.journal.events c.args.part
+    ≡ None = refused-none _ _ c.in_ok-may_commit.ensures in
+    subst (λ v. g.L.Link.is_told v.link ≡ true → StoresOnly (has_log c.args.self.now.given)
+    (g.L.Link.store v.link) (g.L.Link.store c.commit.new.self.link)) c.self.view_is
+    (λ is. stores_only-accepts _ _ _ c.args.part _
+    (may_commit c.args.self.now.given c.args.self.now.journal.events c.args.part none).known
+    (c.in-Ok.ensures.gives is))
