@@ -8,8 +8,8 @@ use Rattle.pc_model.specs.Given.{Given}
 use Rattle.pc_print.specs.Line.{marked, named, spaced, text_of}
 use Rattle.pc_script.specs.declared.play.PlayLine.{PlayLine}
 use Rattle.pc_script.specs.Kinds.{kind_text}
-use Rattle.pc_engine.specs.declared.client.ClientFault.{ClientFault}
-use Rattle.pc_engine.specs.declared.client.ClientFault.TheVariants as client
+use Rattle.pc_offset_client.specs.declared.fault.ClientFault.{ClientFault}
+use Rattle.pc_offset_client.specs.declared.fault.ClientFault.TheVariants as client
 use Rattle.pc_engine.specs.declared.fault.EngineFault.{EngineFault}
 use Rattle.pc_engine.specs.declared.fault.EngineFault.TheVariants as engine
 use Rattle.parcon.specs.declared.remark.Remark.{Remark}

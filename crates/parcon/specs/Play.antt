@@ -8,15 +8,21 @@ use Rattle.pc_world.specs.World.{HasRisen}
 use Rattle.pc_script.specs.declared.play.PlayAct.{PlayAct}
 use Rattle.pc_script.specs.declared.play.PlayAct.TheVariants.{Assign, Commit}
 use Rattle.pc_script.specs.declared.play.PlayLine.{PlayLine}
+use Rattle.pc_offset_client.specs.declared.fault.ClientFault.{ClientFault}
+use Rattle.pc_offset_client.specs.declared.fault.ClientFault.TheVariants.{LinkFailed}
 use Rattle.pc_engine.specs.declared.fault.EngineFault.{EngineFault}
 use Rattle.pc_engine.specs.declared.engine.Committed.{Committed}
 use Rattle.pc_engine.specs.Effect.{Step, assign_step, commit_step}
 use Rattle.parcon.specs.declared.remark.Remark.{Remark}
 
--- what the link did when a line's call asked it: whether it failed, and else the commit that it gave
-pub record Asked : Type 0 where
-  pub failed : Bool
-  pub gave : StoredCommit
+-- what the link's client answered when a line's call asked it: the commit that it fetched, or a
+-- fault. Of a commit that was stored it says no more.
+abbrev pub Asked : Type 0
+Asked = Result StoredCommit ClientFault
+
+abbrev pub done_by : Asked → Result (Unit {0}) ClientFault
+done_by (Ok fetched) = Ok tt
+done_by (Err fault) = Err fault
 
 -- where a play stands: the history, the newest event first, and the remarks, the oldest first
 pub record Play : Type 0 where
@@ -33,9 +39,9 @@ made (Err fault) = Err fault
 
 -- what the call of a line answers, and the events that it adds
 abbrev pub step_of : Given → List Event → PlayAct → Asked → Step (Unit {0})
-step_of given h (Assign part) asked = assign_step given h part asked.failed asked.gave
+step_of given h (Assign part) asked = assign_step given h part asked
 step_of given h (Commit part) asked =
-    let step = commit_step given h part asked.failed in
+    let step = commit_step given h part (done_by asked) in
     record { answer = made step.answer; events = step.events }
 step_of given h act asked = record { answer = Ok tt; events = [] }
 
@@ -63,7 +69,7 @@ played given s (line ∷ lines) (a ∷ asked) = played given (after_line given s
 
 -- the link failed only where its count of faults rose
 abbrev pub HasCause : ℕ → ℕ → Asked → Type 0
-HasCause before after asked = asked.failed ≡ true → HasRisen before after
+HasCause before after asked = asked ≡ Err LinkFailed → HasRisen before after
 
 -- the lines lead from the one place to the other, the link having done something at each
 pub record PlaysTo (given : Given) (s : Play) (lines : List PlayLine) (before after : ℕ) (t : Play)

@@ -10,6 +10,9 @@ use Rattle.pc_model.specs.Given.{Given, has_log}
 use Rattle.pc_model.specs.Lawful.{IsLegal}
 use Rattle.pc_model.specs.Stored.{may_store}
 use Rattle.pc_laws.specs.Lists.{In}
+use Rattle.pc_model.specs.Broker.{Broker}
+use Rattle.pc_offset_client.specs.Client.{kept_for}
+use Rattle.pc_engine.specs.Effect.{StoresOnly}
 use Rattle.pc_engine.specs.Engine.{given_by}
 use Rattle.parcon.specs.declared.status.Status.{Status}
 use Rattle.parcon.specs.declared.status.Status.TheVariants.{NoMemory}
@@ -39,17 +42,17 @@ default_setup = record {
   in_range = default_in_range;
 }
 
--- what a play is given: that setup, one empty log, and for its start what the link keeps
-abbrev pub given_of : Bool → (ℕ → Commit) → Given
-given_of told kept = given_by default_setup 1 [] told kept
+-- what a play is given: that setup, one empty log, and for its start what the link's broker stores
+abbrev pub given_of : Bool → Broker → Given
+given_of told store = given_by default_setup 1 [] told (kept_for store)
 
--- the outside at a moment, as far as it is told: what the files hold, what the link keeps, what
--- stands in the sink, and how often each of them has failed
+-- the outside at a moment, as far as it is told: what the files hold, what the link's broker
+-- stores, what stands in the sink, and how often each of them has failed
 pub record Outside : Type 0 where
   pub contents : List ℕ → Option (List ℕ)
   pub read_faults : ℕ
   pub is_told : Bool
-  pub kept : ℕ → Commit
+  pub store : Broker
   pub link_faults : ℕ
   pub written : Option (List ℕ)
   pub write_faults : ℕ
@@ -65,7 +68,7 @@ pub record IsEnding (words : List (List ℕ)) (before after : Outside) (ending :
   pub asked : List Asked
   pub causes : AllByRecursion (HasCause before.link_faults after.link_faults) asked
   -- the ending that these decide
-  pub decided : ending_of (given_of before.is_told before.kept) words log script asked ≡ ending
+  pub decided : ending_of (given_of before.is_told before.store) words log script asked ≡ ending
 
 -- how a call of the program ends: with the ending of its play, of which the journal is the history
 -- and all output is written, unless the sink failed or memory ran out, and then the first bytes of
@@ -79,10 +82,10 @@ pub record Ends (words : List (List ℕ)) (before after : Outside) (status : Sta
   pub output : IsWritten before.written after.written before.write_faults after.write_faults
       (output_of ending) ending.status status
 
--- a history that is legal, and a link that keeps what it may, where it tells that: for a part with a log one of the
--- commits that may be stored, and for any other what it kept
-pub record IsKept (given : Given) (before after : ℕ → Commit) (h : List Event) : Type 0 where
+-- a history that is legal, and a link whose broker, where that is told, stores what it may: for a
+-- part with a log one of the commits that may be stored, and else what it stored
+pub record IsKept (given : Given) (before after : Broker) (h : List Event) : Type 0 where
   pub legal : IsLegal given h
   pub stored : given.is_told ≡ true → (p : ℕ) → has_log given p ≡ true
-      → In (after p) (may_store given h p)
-  pub others : given.is_told ≡ true → (p : ℕ) → has_log given p ≡ false → after p ≡ before p
+      → In (kept_for after p) (may_store given h p)
+  pub others : given.is_told ≡ true → StoresOnly (has_log given) before after

@@ -15,15 +15,15 @@ use crate::play::{Played, play};
 use crate::reading::script_to_play;
 use crate::status::Status;
 use pc_model::Journal;
-use pc_world::{Files, Keeper, Sink};
+use pc_world::{Files, Link, Sink};
 use std::alloc::Global;
 
 /// How a call of the program ended: its status, the events of its play, and the link.
 #[derive(Debug, Drop)]
-pub struct Ended<K: Keeper> {
+pub struct Ended<L: Link> {
     pub status: Status,
     pub journal: Journal,
-    pub link: K,
+    pub link: L,
 }
 
 /// Plays a script: `play LOG SCRIPT`. It waits for nobody and always returns.
@@ -31,43 +31,44 @@ pub struct Ended<K: Keeper> {
 /// The output is the text of the history and the remarks, or the fault line of the status. Where
 /// the sink fails the status is `SinkFault`, and where memory runs out `NoMemory`; the output is
 /// then the first bytes of it. Without an engine the journal is empty.
-pub fn offline<F: Files, K: Keeper, O: Sink>(
+pub fn offline<F: Files, L: Link, O: Sink>(
     alloc: Global,
     words: &[String],
     files: &mut F,
-    link: K,
+    link: L,
     out: &mut O,
-) -> Ended<K>
+) -> Ended<L>
     // Nothing is passed over that was not done, and one ordering key runs singly and in order.
-    ensures legal { IsLegal (given_of (K.is_told link) (K.kept link)) result.journal.events }
-    ensures sound { K.is_told link ≡ true
-        → IsSound (given_of (K.is_told link) (K.kept link)) result.journal.events }
-    ensures orderly { IsOrderly (given_of (K.is_told link) (K.kept link)) result.journal.events }
+    ensures legal { IsLegal (given_of (L.is_told link) (L.store link)) result.journal.events }
+    ensures sound { L.is_told link ≡ true
+        → IsSound (given_of (L.is_told link) (L.store link)) result.journal.events }
+    ensures orderly { IsOrderly (given_of (L.is_told link) (L.store link)) result.journal.events }
 
-    // A link that tells what it keeps has a commit that may be stored, and for other parts what it
-    // had.
-    ensures stored { K.is_told link ≡ true → In (K.kept result.link 0)
-        (may_store (given_of (K.is_told link) (K.kept link)) result.journal.events 0) }
-    ensures others { K.is_told link ≡ true → (p : ℕ) → (p ≡ 0 → ⊥)
-        → K.kept result.link p ≡ K.kept link p }
+    // The broker of a link that tells its store has, for the group of the client, a commit of the
+    // part that may be stored, and stores all else as before.
+    ensures stored { L.is_told link ≡ true → In (kept_for (L.store result.link) 0)
+        (may_store (given_of (L.is_told link) (L.store link)) result.journal.events 0) }
+    ensures others { L.is_told link ≡ true
+        → StoresOnly (has_log (given_of (L.is_told link) (L.store link))) (L.store link)
+        (L.store result.link) }
 
     // The status, the history and the output are those of the play.
     ensures ends { Ends (map string_bytes words.now)
         (record {
           contents = F.told files.old;
           read_faults = F.faults files.old;
-          is_told = K.is_told link;
-          kept = K.kept link;
-          link_faults = K.faults link;
+          is_told = L.is_told link;
+          store = L.store link;
+          link_faults = L.faults link;
           written = O.written out.old;
           write_faults = O.faults out.old;
         })
         (record {
           contents = F.told files.new;
           read_faults = F.faults files.new;
-          is_told = K.is_told result.link;
-          kept = K.kept result.link;
-          link_faults = K.faults result.link;
+          is_told = L.is_told result.link;
+          store = L.store result.link;
+          link_faults = L.faults result.link;
           written = O.written out.new;
           write_faults = O.faults out.new;
         })
@@ -84,7 +85,7 @@ pub fn offline<F: Files, K: Keeper, O: Sink>(
 }
 
 /// Tells how a play went.
-fn tell<K: Keeper, O: Sink>(alloc: Global, played: Played<K>, out: &mut O) -> Ended<K>
+fn tell<L: Link, O: Sink>(alloc: Global, played: Played<L>, out: &mut O) -> Ended<L>
     ensures journal { result.journal.events ≡ played.journal.events }
     ensures link { result.link ≡ played.link }
     ensures written { MatchResult played.remarks

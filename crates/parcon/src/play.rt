@@ -3,7 +3,7 @@
 ghost use Rattle.std.specs.Prelude.{◌≡◌, ◌≤◌, ℕ, true, false, [], OnOk, IfOk, IsErr};
 ghost use Rattle.pc_model.specs.Given.{has_log};
 ghost use Rattle.pc_script.specs.declared.play.PlayAct.TheVariants.{Assign, Commit};
-ghost use Rattle.pc_engine.specs.Effect.{Does};
+ghost use Rattle.pc_engine.specs.Effect.{Does, StoresOnly};
 ghost use Rattle.parcon.specs.Play.{Asked, HasCause, PlaysTo, after_line, start, step_of};
 ghost use Rattle.parcon.specs.Promise.{IsKept, given_of};
 
@@ -11,26 +11,26 @@ use crate::remark::Remark;
 use pc_engine::{Engine, EngineFault};
 use pc_model::{Journal, Setup};
 use pc_script::{PlayAct, PlayLine};
-use pc_world::Keeper;
+use pc_world::Link;
 use std::alloc::{AllocError, Global};
 
 /// What a play left: the remarks, or that memory was wanting, the journal and the link.
-pub(crate) struct Played<K: Keeper> {
+pub(crate) struct Played<L: Link> {
     pub(crate) remarks: Result<Vec<Remark>, AllocError>,
     pub(crate) journal: Journal,
-    pub(crate) link: K,
+    pub(crate) link: L,
 }
 
 /// Makes the call that a line asks for. A line that the program cannot play makes none.
-fn call<K: Keeper>(engine: &mut Engine<K>, act: PlayAct) -> Result<(), EngineFault>
-    ensures does { (asked : Asked) × HasCause (K.faults engine.old.link) (K.faults engine.new.link)
+fn call<L: Link>(engine: &mut Engine<L>, act: PlayAct) -> Result<(), EngineFault>
+    ensures does { (asked : Asked) × HasCause (L.faults engine.old.link) (L.faults engine.new.link)
         asked × Does result (step_of engine.old.given engine.old.journal.events act asked)
         engine.old.journal.events engine.new.journal.events }
-    ensures keeps { K.is_told engine.old.link ≡ true → (q : ℕ) → has_log engine.old.given q ≡ false
-        → K.kept engine.new.link q ≡ K.kept engine.old.link q }
+    ensures keeps { L.is_told engine.old.link ≡ true → StoresOnly (has_log engine.old.given)
+        (L.store engine.old.link) (L.store engine.new.link) }
     ensures given { engine.new.given ≡ engine.old.given }
-    ensures told { K.is_told engine.new.link ≡ K.is_told engine.old.link }
-    ensures count { K.faults engine.old.link ≤ K.faults engine.new.link }
+    ensures told { L.is_told engine.new.link ≡ L.is_told engine.old.link }
+    ensures count { L.faults engine.old.link ≤ L.faults engine.new.link }
 {
     match act {
         PlayAct::Assign(part) => assign(engine, part),
@@ -40,29 +40,29 @@ fn call<K: Keeper>(engine: &mut Engine<K>, act: PlayAct) -> Result<(), EngineFau
 }
 
 /// Assigns a part.
-fn assign<K: Keeper>(engine: &mut Engine<K>, part: u32) -> Result<(), EngineFault>
-    ensures does { (asked : Asked) × HasCause (K.faults engine.old.link) (K.faults engine.new.link)
+fn assign<L: Link>(engine: &mut Engine<L>, part: u32) -> Result<(), EngineFault>
+    ensures does { (asked : Asked) × HasCause (L.faults engine.old.link) (L.faults engine.new.link)
         asked × Does result (step_of engine.old.given engine.old.journal.events (Assign part) asked)
         engine.old.journal.events engine.new.journal.events }
-    ensures keeps { K.is_told engine.old.link ≡ true → (q : ℕ) → has_log engine.old.given q ≡ false
-        → K.kept engine.new.link q ≡ K.kept engine.old.link q }
+    ensures keeps { L.is_told engine.old.link ≡ true → StoresOnly (has_log engine.old.given)
+        (L.store engine.old.link) (L.store engine.new.link) }
     ensures given { engine.new.given ≡ engine.old.given }
-    ensures told { K.is_told engine.new.link ≡ K.is_told engine.old.link }
-    ensures count { K.faults engine.old.link ≤ K.faults engine.new.link }
+    ensures told { L.is_told engine.new.link ≡ L.is_told engine.old.link }
+    ensures count { L.faults engine.old.link ≤ L.faults engine.new.link }
 {
     engine.assign(part)
 }
 
 /// Commits a part.
-fn commit<K: Keeper>(engine: &mut Engine<K>, part: u32) -> Result<(), EngineFault>
-    ensures does { (asked : Asked) × HasCause (K.faults engine.old.link) (K.faults engine.new.link)
+fn commit<L: Link>(engine: &mut Engine<L>, part: u32) -> Result<(), EngineFault>
+    ensures does { (asked : Asked) × HasCause (L.faults engine.old.link) (L.faults engine.new.link)
         asked × Does result (step_of engine.old.given engine.old.journal.events (Commit part) asked)
         engine.old.journal.events engine.new.journal.events }
-    ensures keeps { K.is_told engine.old.link ≡ true → (q : ℕ) → has_log engine.old.given q ≡ false
-        → K.kept engine.new.link q ≡ K.kept engine.old.link q }
+    ensures keeps { L.is_told engine.old.link ≡ true → StoresOnly (has_log engine.old.given)
+        (L.store engine.old.link) (L.store engine.new.link) }
     ensures given { engine.new.given ≡ engine.old.given }
-    ensures told { K.is_told engine.new.link ≡ K.is_told engine.old.link }
-    ensures count { K.faults engine.old.link ≤ K.faults engine.new.link }
+    ensures told { L.is_told engine.new.link ≡ L.is_told engine.old.link }
+    ensures count { L.faults engine.old.link ≤ L.faults engine.new.link }
 {
     match engine.commit(part) {
         Ok(_) => Ok(()),
@@ -71,20 +71,20 @@ fn commit<K: Keeper>(engine: &mut Engine<K>, part: u32) -> Result<(), EngineFaul
 }
 
 /// Plays a line: its call, and a remark where that was refused. The error is want of memory.
-fn play_line<K: Keeper>(
-    engine: &mut Engine<K>,
+fn play_line<L: Link>(
+    engine: &mut Engine<L>,
     remarks: &mut Vec<Remark>,
     line: &PlayLine,
 ) -> Result<(), AllocError>
-    ensures ok { OnOk result ((asked : Asked) × HasCause (K.faults engine.old.link)
-        (K.faults engine.new.link) asked × (after_line engine.old.given
+    ensures ok { OnOk result ((asked : Asked) × HasCause (L.faults engine.old.link)
+        (L.faults engine.new.link) asked × (after_line engine.old.given
         (record { history = engine.old.journal.events; remarks = remarks.old.items }) line.now asked
         ≡ record { history = engine.new.journal.events; remarks = remarks.new.items })) }
-    ensures keeps { K.is_told engine.old.link ≡ true → (q : ℕ) → has_log engine.old.given q ≡ false
-        → K.kept engine.new.link q ≡ K.kept engine.old.link q }
+    ensures keeps { L.is_told engine.old.link ≡ true → StoresOnly (has_log engine.old.given)
+        (L.store engine.old.link) (L.store engine.new.link) }
     ensures given { engine.new.given ≡ engine.old.given }
-    ensures told { K.is_told engine.new.link ≡ K.is_told engine.old.link }
-    ensures count { K.faults engine.old.link ≤ K.faults engine.new.link }
+    ensures told { L.is_told engine.new.link ≡ L.is_told engine.old.link }
+    ensures count { L.faults engine.old.link ≤ L.faults engine.new.link }
 {
     match call(engine, line.act) {
         Ok(()) => Ok(()),
@@ -98,20 +98,20 @@ fn play_line<K: Keeper>(
 }
 
 /// Plays all lines. The error is want of memory.
-fn play_lines<K: Keeper>(
-    engine: &mut Engine<K>,
+fn play_lines<L: Link>(
+    engine: &mut Engine<L>,
     remarks: &mut Vec<Remark>,
     lines: &[PlayLine],
 ) -> Result<(), AllocError>
     ensures ok { OnOk result (PlaysTo engine.old.given
         (record { history = engine.old.journal.events; remarks = remarks.old.items }) lines.now
-        (K.faults engine.old.link) (K.faults engine.new.link)
+        (L.faults engine.old.link) (L.faults engine.new.link)
         (record { history = engine.new.journal.events; remarks = remarks.new.items })) }
-    ensures keeps { K.is_told engine.old.link ≡ true → (q : ℕ) → has_log engine.old.given q ≡ false
-        → K.kept engine.new.link q ≡ K.kept engine.old.link q }
+    ensures keeps { L.is_told engine.old.link ≡ true → StoresOnly (has_log engine.old.given)
+        (L.store engine.old.link) (L.store engine.new.link) }
     ensures given { engine.new.given ≡ engine.old.given }
-    ensures told { K.is_told engine.new.link ≡ K.is_told engine.old.link }
-    ensures count { K.faults engine.old.link ≤ K.faults engine.new.link }
+    ensures told { L.is_told engine.new.link ≡ L.is_told engine.old.link }
+    ensures count { L.faults engine.old.link ≤ L.faults engine.new.link }
 {
     for line in lines {
         play_line(engine, remarks, line)?;
@@ -120,12 +120,12 @@ fn play_lines<K: Keeper>(
 }
 
 /// Plays the lines on an engine without events.
-fn play_on<K: Keeper>(alloc: Global, mut engine: Engine<K>, lines: &[PlayLine]) -> Played<K>
+fn play_on<L: Link>(alloc: Global, mut engine: Engine<L>, lines: &[PlayLine]) -> Played<L>
     requires { engine.journal.events ≡ [] }
-    ensures kept { IsKept engine.entry.given (K.kept engine.entry.link) (K.kept result.link)
+    ensures kept { IsKept engine.entry.given (L.store engine.entry.link) (L.store result.link)
         result.journal.events }
     ensures played { IfOk result.remarks (λ remarks. PlaysTo engine.entry.given start lines.now
-        (K.faults engine.entry.link) (K.faults result.link)
+        (L.faults engine.entry.link) (L.faults result.link)
         (record { history = result.journal.events; remarks = remarks.items })) }
 {
     let mut remarks = Vec::new(alloc);
@@ -136,12 +136,12 @@ fn play_on<K: Keeper>(alloc: Global, mut engine: Engine<K>, lines: &[PlayLine]) 
 }
 
 /// What an engine leaves, with these remarks.
-fn left<K: Keeper>(engine: Engine<K>, remarks: Result<Vec<Remark>, AllocError>) -> Played<K>
+fn left<L: Link>(engine: Engine<L>, remarks: Result<Vec<Remark>, AllocError>) -> Played<L>
     ensures remarks { result.remarks ≡ remarks }
     ensures journal { result.journal ≡ engine.entry.journal }
     ensures link { result.link ≡ engine.entry.link }
-    ensures told { engine.entry.given.is_told ≡ K.is_told engine.entry.link }
-    ensures kept { IsKept engine.entry.given (K.kept engine.entry.link) (K.kept result.link)
+    ensures told { engine.entry.given.is_told ≡ L.is_told engine.entry.link }
+    ensures kept { IsKept engine.entry.given (L.store engine.entry.link) (L.store result.link)
         result.journal.events }
 {
     let (journal, link) = engine.into_parts();
@@ -154,12 +154,12 @@ fn left<K: Keeper>(engine: Engine<K>, remarks: Result<Vec<Remark>, AllocError>) 
 
 /// Plays the lines over one empty log, with the values of a setup that hold where nothing else is
 /// said.
-pub(crate) fn play<K: Keeper>(alloc: Global, lines: &[PlayLine], link: K) -> Played<K>
-    ensures kept { let given = given_of (K.is_told link) (K.kept link) in
-        IsKept given (K.kept link) (K.kept result.link) result.journal.events }
-    ensures played { let given = given_of (K.is_told link) (K.kept link) in
-        IfOk result.remarks (λ remarks. PlaysTo given start lines.now (K.faults link)
-        (K.faults result.link)
+pub(crate) fn play<L: Link>(alloc: Global, lines: &[PlayLine], link: L) -> Played<L>
+    ensures kept { let given = given_of (L.is_told link) (L.store link) in
+        IsKept given (L.store link) (L.store result.link) result.journal.events }
+    ensures played { let given = given_of (L.is_told link) (L.store link) in
+        IfOk result.remarks (λ remarks. PlaysTo given start lines.now (L.faults link)
+        (L.faults result.link)
         (record { history = result.journal.events; remarks = remarks.items })) }
 {
     let Ok(setup) = Setup::with_defaults(alloc) else {
@@ -172,7 +172,7 @@ pub(crate) fn play<K: Keeper>(alloc: Global, lines: &[PlayLine], link: K) -> Pla
 }
 
 /// What there is where memory was wanting for an engine.
-fn unplayed<K: Keeper>(alloc: Global, link: K) -> Played<K>
+fn unplayed<L: Link>(alloc: Global, link: L) -> Played<L>
     ensures link { result.link ≡ link }
     ensures journal { result.journal.events ≡ [] }
     ensures remarks { IsErr result.remarks }

@@ -1,0 +1,12 @@
+//! A broker of offsets in memory: it answers the frames of OffsetCommit and OffsetFetch, and keeps
+//! for each group and part the commit that it accepted last. It is a link that tells its store.
+#![tactic(auto)]
+
+mod broker;
+mod commits;
+mod fault;
+mod members;
+
+pub use broker::OffsetBroker;
+pub use fault::BrokerFault;
+pub use members::MemberId;
