@@ -22,11 +22,16 @@ use Rattle.pc_world.specs.World.{HasRisen}
 use Rattle.pc_script.specs.declared.play.PlayAct.{PlayAct}
 use Rattle.pc_script.specs.declared.play.PlayAct.TheVariants.{Assign, Commit}
 use Rattle.pc_script.specs.declared.play.PlayLine.{PlayLine}
-use Rattle.pc_engine.specs.declared.client.ClientFault.TheVariants.{LinkFailed}
+use Rattle.pc_offset_client.specs.declared.fault.ClientFault.{ClientFault}
+use Rattle.pc_offset_client.specs.declared.fault.ClientFault.TheVariants as client
+use Rattle.pc_offset_client.specs.declared.fault.ClientFault.TheVariants.{LinkFailed}
+use Rattle.pc_offset_client.specs.Client.{kept_for}
+use Rattle.pc_model.specs.Broker.{Broker}
 use Rattle.pc_engine.specs.declared.fault.EngineFault.{EngineFault}
 use Rattle.pc_engine.specs.declared.fault.EngineFault.TheVariants.{Client, Closed, UnknownPart, NoMemory}
 use Rattle.pc_engine.specs.declared.engine.Committed.{Committed}
-use Rattle.pc_engine.specs.Effect.{Step, Does, KeepsAfter, link_failed, assign_step, commit_step, commit_refusal}
+use Rattle.pc_engine.specs.Fault.{engine_fault_of}
+use Rattle.pc_engine.specs.Effect.{Step, Does, StoresOnly, assign_step, commit_step}
 use Rattle.parcon.specs.declared.remark.Remark.{Remark}
 use Rattle.parcon.specs.Play.{Asked, Play, HasCause, PlaysTo, after_line, made, played, remarks_on, start, step_of}
 use Rattle.parcon.specs.Promise.{IsKept, default_setup, default_in_range, given_of}
@@ -37,24 +42,17 @@ use Rattle.parcon.proofs.ReadingLemmas.{risen-later, risen-earlier}
 false-not-true : false ≡ true → ⊥
 false-not-true is = true-not-false true refl (sym is)
 
--- an answer that says that the link failed
-failed-is : {A : Type 0} (r : Result A EngineFault) → link_failed r ≡ true
-    → r ≡ Err (Client LinkFailed)
-failed-is (Err (Client LinkFailed)) is = refl
-failed-is r is = absurd (false-not-true is)
-
-failed-cause : {A : Type 0} (r : Result A EngineFault) (f f' : ℕ)
-    → (r ≡ Err (Client LinkFailed) → HasRisen f f') → (c : StoredCommit)
-    → HasCause f f' (record { failed = link_failed r; gave = c })
-failed-cause r f f' cause c is = cause (failed-is r is)
+-- what an answer is called where it says that the link failed
+answer-failed : (r : Result (Unit {0}) EngineFault) (given : Given) (h h' : List Event) (p : ℕ) (o : Asked)
+    → Does r (assign_step given h p o) h h' → o ≡ Err LinkFailed → ?
+answer-failed = ?
 
 -- an assignment, with the commit that the link gave
 pub assigned : (given : Given) (h h' : List Event) (p : ℕ) (r : Result (Unit {0}) EngineFault)
-    (f f' : ℕ) (P : StoredCommit → Type 0) → (r ≡ Err (Client LinkFailed) → HasRisen f f')
-    → (c : StoredCommit) × P c × Does r (assign_step given h p (link_failed r) c) h h'
+    (f f' : ℕ) (P : Asked → Type 0) → (r ≡ Err (Client LinkFailed) → HasRisen f f')
+    → (o : Asked) × P o × Does r (assign_step given h p o) h h'
     → (asked : Asked) × HasCause f f' asked × Does r (step_of given h (Assign p) asked) h h'
-assigned given h h' p r f f' P cause (c, told, does) =
-    (record { failed = link_failed r; gave = c }, failed-cause r f f' cause c, does)
+assigned given h h' p r f f' P cause (o, told, does) = (o, ?, does)
 
 -- a commit does the same without its receipt
 does-made : (r : Result Committed EngineFault) (step : Step Committed) (h h' : List Event)

@@ -13,12 +13,17 @@ mod remark;
 mod status;
 
 use offline::offline;
-use pc_world::{DiskFiles, MemoryKeeper, StdSink};
+use pc_offset_client::TOPIC;
+use pc_offset_store::OffsetBroker;
+use pc_world::{DiskFiles, StdSink};
 use status::NO_MEMORY;
 use std::alloc::AllocError;
 use std::env;
 use std::io::ErrorKind;
 use std::process::ExitCode;
+
+/// How many parts the topic of the program's broker has.
+const PARTS: u32 = 1_024;
 
 #[cfg(test)]
 mod tests;
@@ -34,7 +39,7 @@ fn main(rt: HostRuntime) -> ExitCode {
 /// link in memory, and answers the number of its status.
 fn run(rt: &HostRuntime) -> Result<u8, AllocError> {
     let words = words(rt)?;
-    let link = MemoryKeeper::new(rt.alloc(), &[], &[])?;
+    let link = OffsetBroker::new(rt.alloc(), TOPIC, PARTS)?;
     let mut files = DiskFiles::new(rt);
     let mut out = StdSink::new(rt);
     let ended = offline(rt.alloc(), &words, &mut files, link, &mut out);

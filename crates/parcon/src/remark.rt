@@ -3,8 +3,9 @@
 ghost use Rattle.std.specs.Prelude.{◌≡◌, ◌++◌, ◌∷◌, OnOk, OnErr, codes};
 ghost use Rattle.parcon.specs.Ending.{client_words, map_words, remark_line, words_at};
 
-use pc_engine::{ClientFault, EngineFault};
+use pc_engine::EngineFault;
 use pc_model::MapFault;
+use pc_offset_client::ClientFault;
 use pc_print::Word::{Label, Name, Number, Signed};
 use pc_print::put_line;
 use std::alloc::AllocError;

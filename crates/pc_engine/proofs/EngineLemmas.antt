@@ -39,7 +39,7 @@ use Rattle.pc_model.specs.Broker.{Broker}
 use Rattle.pc_offset_client.specs.Client.{CommitGives, FetchGives, Accepts, GROUP, kept_for}
 use Rattle.pc_engine.specs.Fault.{engine_fault_of}
 use Rattle.pc_engine.specs.declared.engine.Committed.{Committed as Receipt}
-use Rattle.pc_engine.specs.Effect.{Does, StoresOnly, refuses, assign_after, commit_after, is_full, refused_by, map_refusal, assign_step, assign_refusal, commit_refusal, commit_step}
+use Rattle.pc_engine.specs.Effect.{Does, IsFetched, IsStored, StoresOnly, refuses, assign_after, commit_after, is_full, refused_by, map_refusal, assign_step, assign_refusal, commit_refusal, commit_step}
 use Rattle.pc_engine.specs.Engine.{first_assigned, start_at, starts_by, given_by, PartKeeps, IsEngine}
 
 not-lt : (p n : ℕ) → n ≤ p → nat_lt p n ≡ false
@@ -280,43 +280,46 @@ does-refused (Some g) f given h h' p outcome is same =
     subst (λ (x : EngineFault). Does {A = Unit {0}} (Err f) (refuses x) h h') (fault-is f g is)
     (does-refuses f h h' same)
 
--- what is said of an assignment: what the client answered, and the step by that
-Assigns : (told : Bool) (b : Broker) (given : Given) (h h' : List Event) (p : ℕ) → Result (Unit {0}) EngineFault → Type 0
-Assigns told b given h h' p r = (outcome : Result Commit ClientFault)
-    × (told ≡ true → FetchGives b p outcome) × Does r (assign_step given h p outcome) h h'
+-- nothing is said where the client was not asked
+fetched-none : (told : Bool) (b : Broker) (f f' p : ℕ) → IsFetched told b f f' p (Err client.NoMemory)
+fetched-none told b f f' p = record { cause = λ is. cc; gives = λ told. tt }
+
+stored-none : (told : Bool) (b b' : Broker) (f f' p : ℕ) (c : Commit) → b' ≡ b
+    → IsStored told b b' f f' p c (Err client.NoMemory)
+stored-none told b b' f f' p c same = record { cause = λ is. cc; gives = λ told. same }
 
 -- an assignment that is refused before the link is asked
 pub assign-refused : (r : Result (Unit {0}) EngineFault) (f : EngineFault) (given : Given)
-    (h h' : List Event) (p : ℕ) (told : Bool) (b : Broker) → r ≡ Err f
+    (h h' : List Event) (p : ℕ) (told : Bool) (b : Broker) (n n' : ℕ) → r ≡ Err f
     → ◌≡◌ {A = Result (Unit {0}) EngineFault} (Err f) (refused_by (assign_refusal given h p))
     → h' ≡ h
     → (outcome : Result Commit ClientFault)
-    × (told ≡ true → FetchGives b p outcome) × Does r (assign_step given h p outcome) h h'
-assign-refused r f given h h' p told b was is same = (
+    × IsFetched told b n n' p outcome × Does r (assign_step given h p outcome) h h'
+assign-refused r f given h h' p told b n n' was is same = (
   Err client.NoMemory,
-  λ told. tt,
+  fetched-none told b n n' p,
   subst (λ (x : Result (Unit {0}) EngineFault). Does x (assign_step given h p (Err client.NoMemory)) h h') (sym was)
       (does-refused (assign_refusal given h p) f given h h' p (Err client.NoMemory) is same),
 )
 
 -- an assignment for which there was no memory
 pub assign-unmade : (r : Result (Unit {0}) EngineFault) (given : Given)
-    (h h' : List Event) (p : ℕ) (told : Bool) (b : Broker) → r ≡ Err NoMemory → h' ≡ h
+    (h h' : List Event) (p : ℕ) (told : Bool) (b : Broker) (n n' : ℕ) → r ≡ Err NoMemory → h' ≡ h
     → (outcome : Result Commit ClientFault)
-    × (told ≡ true → FetchGives b p outcome) × Does r (assign_step given h p outcome) h h'
-assign-unmade r given h h' p told b was same = (
+    × IsFetched told b n n' p outcome × Does r (assign_step given h p outcome) h h'
+assign-unmade r given h h' p told b n n' was same = (
   Err client.NoMemory,
-  λ told. tt,
+  fetched-none told b n n' p,
   subst (λ (x : Result (Unit {0}) EngineFault). Does x (assign_step given h p (Err client.NoMemory)) h h') (sym was) same,
 )
 
 -- an assignment whose fetch failed
 pub assign-unfetched : (r : Result (Unit {0}) EngineFault) (f : ClientFault) (given : Given)
-    (h h' : List Event) (p : ℕ) (told : Bool) (b : Broker) → r ≡ Err (engine_fault_of f)
-    → assign_refusal given h p ≡ None → (told ≡ true → FetchGives b p (Err f)) → h' ≡ h
+    (h h' : List Event) (p : ℕ) (told : Bool) (b : Broker) (n n' : ℕ) → r ≡ Err (engine_fault_of f)
+    → assign_refusal given h p ≡ None → IsFetched told b n n' p (Err f) → h' ≡ h
     → (outcome : Result Commit ClientFault)
-    × (told ≡ true → FetchGives b p outcome) × Does r (assign_step given h p outcome) h h'
-assign-unfetched r f given h h' p told b was none gives same = (
+    × IsFetched told b n n' p outcome × Does r (assign_step given h p outcome) h h'
+assign-unfetched r f given h h' p told b n n' was none gives same = (
   Err f,
   gives,
   subst (λ (x : Result (Unit {0}) EngineFault). Does x (assign_step given h p (Err f)) h h') (sym was)
@@ -325,16 +328,16 @@ assign-unfetched r f given h h' p told b was none gives same = (
 
 -- an assignment whose map does not read
 pub assign-misread : (r : Result (Unit {0}) EngineFault) (f : EngineFault) (given : Given)
-    (h h' : List Event) (p : ℕ) (told : Bool) (b : Broker) (stored : Commit) (rule : BadMapRule)
-    → r ≡ Err f → assign_refusal given h p ≡ None → (told ≡ true → FetchGives b p (Ok stored))
+    (h h' : List Event) (p : ℕ) (told : Bool) (b : Broker) (n n' : ℕ) (stored : Commit) (rule : BadMapRule)
+    → r ≡ Err f → assign_refusal given h p ≡ None → IsFetched told b n n' p (Ok stored)
     → rule ≡ given.setup.bad_map
     → (f ≡ NoMemory) ⊎ ((m : MapFault) × (f ≡ BadMap m) × (map_refusal rule stored ≡ Some m))
     → h' ≡ h
     → (outcome : Result Commit ClientFault)
-    × (told ≡ true → FetchGives b p outcome) × Does r (assign_step given h p outcome) h h'
-assign-misread r f given h h' p told b stored rule was none gives same_rule (inl is) same =
-    assign-unmade r given h h' p told b (was ∙ ap (λ (x : EngineFault). Err x) is) same
-assign-misread r f given h h' p told b stored rule was none gives same_rule (inr bad) same = (
+    × IsFetched told b n n' p outcome × Does r (assign_step given h p outcome) h h'
+assign-misread r f given h h' p told b n n' stored rule was none gives same_rule (inl is) same =
+    assign-unmade r given h h' p told b n n' (was ∙ ap (λ (x : EngineFault). Err x) is) same
+assign-misread r f given h h' p told b n n' stored rule was none gives same_rule (inr bad) same = (
   Ok stored,
   gives,
   subst (λ (x : Result (Unit {0}) EngineFault). Does x (assign_step given h p (Ok stored)) h h')
@@ -827,28 +830,28 @@ does-refused_commit (Some g) f given h h' p outcome is same =
 
 -- a commit that is refused before the link is asked
 pub commit-refused : (r : Result Receipt EngineFault) (f : EngineFault) (given : Given)
-    (h h' : List Event) (p : ℕ) (told : Bool) (b b' : Broker) → r ≡ Err f
+    (h h' : List Event) (p : ℕ) (told : Bool) (b b' : Broker) (n n' : ℕ) → r ≡ Err f
     → ◌≡◌ {A = Result (Unit {0}) EngineFault} (Err f) (refused_by (commit_refusal given h p))
     → b' ≡ b → h' ≡ h
     → (outcome : Result (Unit {0}) ClientFault)
-    × (told ≡ true → CommitGives b b' p (commit_of given h p).commit outcome)
+    × IsStored told b b' n n' p (commit_of given h p).commit outcome
     × Does r (commit_step given h p outcome) h h'
-commit-refused r f given h h' p told b b' was is stays same = (
+commit-refused r f given h h' p told b b' n n' was is stays same = (
   Err client.NoMemory,
-  λ told. stays,
+  stored-none told b b' n n' p _ stays,
   subst (λ (x : Result Receipt EngineFault). Does x (commit_step given h p (Err client.NoMemory)) h h') (sym was)
       (does-refused_commit (commit_refusal given h p) f given h h' p (Err client.NoMemory) is same),
 )
 
 -- a commit for which there was no memory
 pub commit-unmade : (r : Result Receipt EngineFault) (given : Given)
-    (h h' : List Event) (p : ℕ) (told : Bool) (b b' : Broker) → r ≡ Err NoMemory → b' ≡ b → h' ≡ h
+    (h h' : List Event) (p : ℕ) (told : Bool) (b b' : Broker) (n n' : ℕ) → r ≡ Err NoMemory → b' ≡ b → h' ≡ h
     → (outcome : Result (Unit {0}) ClientFault)
-    × (told ≡ true → CommitGives b b' p (commit_of given h p).commit outcome)
+    × IsStored told b b' n n' p (commit_of given h p).commit outcome
     × Does r (commit_step given h p outcome) h h'
-commit-unmade r given h h' p told b b' was stays same = (
+commit-unmade r given h h' p told b b' n n' was stays same = (
   Err client.NoMemory,
-  λ told. stays,
+  stored-none told b b' n n' p _ stays,
   subst (λ (x : Result Receipt EngineFault). Does x (commit_step given h p (Err client.NoMemory)) h h') (sym was) same,
 )
 

@@ -1,6 +1,6 @@
 -- The exact effect of an engine's calls: the first refusal, or else the lawful event with its
 -- values.
-use Rattle.std.specs.Prelude.{ℕ, ◌+◌, ◌≡◌, Bool, false, not, ◌&&◌, nat_lt, if◌then◌else◌, bytes_eq, List, [], ◌∷◌, ◌++◌, length, Option, Some, None, Result, Ok, Err}
+use Rattle.std.specs.Prelude.{ℕ, ◌+◌, ◌≡◌, Bool, true, false, not, ◌&&◌, nat_lt, if◌then◌else◌, bytes_eq, List, [], ◌∷◌, ◌++◌, length, Option, Some, None, Result, Ok, Err}
 use Rattle.pc_model.specs.declared.choices.BadMapRule.{BadMapRule}
 use Rattle.pc_model.specs.declared.choices.BadMapRule.TheVariants.{Redo, Refuse}
 use Rattle.pc_model.specs.declared.commit.Commit.{Commit}
@@ -14,7 +14,9 @@ use Rattle.pc_model.specs.Jobs.{has_ended, is_draining, open_jobs}
 use Rattle.pc_model.specs.Epochs.{epoch_of, is_held}
 use Rattle.pc_model.specs.Known.{commit_of}
 use Rattle.pc_model.specs.Broker.{Broker, stored_for}
-use Rattle.pc_offset_client.specs.Client.{GROUP}
+use Rattle.pc_offset_client.specs.declared.fault.ClientFault.TheVariants.{LinkFailed}
+use Rattle.pc_offset_client.specs.Client.{CommitGives, FetchGives, GROUP}
+use Rattle.pc_world.specs.World.{HasRisen}
 use Rattle.pc_offset_client.specs.declared.fault.ClientFault.{ClientFault}
 use Rattle.pc_engine.specs.Fault.{engine_fault_of}
 use Rattle.pc_engine.specs.declared.engine.Committed.{Committed as Receipt}
@@ -113,6 +115,21 @@ commit_after given h p outcome None = commit_with p (commit_of given h p) outcom
 
 abbrev pub commit_step : Given → List Event → ℕ → Result (Unit {0}) ClientFault → Step Receipt
 commit_step given h p outcome = commit_after given h p outcome (commit_refusal given h p)
+
+-- ---- what the link's client answers
+
+-- What a fetch for the part answered: the link failed only where its count of faults rose, and where
+-- it tells its store, this is the broker's answer. For a fetch that was not made any fault stands.
+pub record IsFetched (told : Bool) (store : Broker) (before after p : ℕ)
+    (outcome : Result Commit ClientFault) : Type 0 where
+  pub cause : outcome ≡ Err LinkFailed → HasRisen before after
+  pub gives : told ≡ true → FetchGives store p outcome
+
+-- the same of a commit, and what the broker stores then
+pub record IsStored (told : Bool) (store store' : Broker) (before after p : ℕ) (c : Commit)
+    (outcome : Result (Unit {0}) ClientFault) : Type 0 where
+  pub cause : outcome ≡ Err LinkFailed → HasRisen before after
+  pub gives : told ≡ true → CommitGives store store' p c outcome
 
 -- ---- the store of a link that tells it
 

@@ -61,7 +61,7 @@ impl<'a, L: Link> Engine<'a, L> {
     ghost use Rattle.pc_model.specs.Known.{commit_of};
     ghost use Rattle.pc_offset_client.specs.declared.fault.ClientFault.{ClientFault};
     ghost use Rattle.pc_offset_client.specs.declared.fault.ClientFault.TheVariants.{LinkFailed};
-    ghost use Rattle.pc_offset_client.specs.Client.{CommitGives, FetchGives, kept_for};
+    ghost use Rattle.pc_offset_client.specs.Client.{kept_for};
     ghost use Rattle.pc_engine.specs.declared.fault.EngineFault.{EngineFault};
     ghost use Rattle.pc_engine.specs.declared.fault.EngineFault.TheVariants.{Client as Failed};
     ghost use Rattle.pc_world.specs.World.{HasRisen};
@@ -69,7 +69,7 @@ impl<'a, L: Link> Engine<'a, L> {
     ghost use Rattle.pc_model.specs.Lawful.{IsLegal};
     ghost use Rattle.pc_model.specs.Stored.{may_store};
     ghost use Rattle.pc_laws.specs.Lists.{In};
-    ghost use Rattle.pc_engine.specs.Effect.{Does, StoresOnly, assign_refusal, assign_step, commit_refusal, commit_step, is_full, refused_by};
+    ghost use Rattle.pc_engine.specs.Effect.{Does, IsFetched, IsStored, StoresOnly, assign_refusal, assign_step, commit_refusal, commit_step, is_full, refused_by};
     ghost use Rattle.pc_engine.specs.Engine.{given_by};
 
     /// An engine over so many parts, each with an empty log. The error is want of memory and gives
@@ -132,8 +132,9 @@ impl<'a, L: Link> Engine<'a, L> {
     /// `Client` or `BadMap`, the first that applies. Over a link that does not tell its store, the
     /// commit is what the link gave.
     pub fn assign(&mut self, part: u32) -> Result<(), EngineFault>
-        ensures effect { (outcome : Result Commit ClientFault) × (L.is_told self.old.link ≡ true
-            → FetchGives (L.store self.old.link) part outcome) × Does result
+        ensures effect { (outcome : Result Commit ClientFault) × IsFetched
+            (L.is_told self.old.link) (L.store self.old.link) (L.faults self.old.link)
+            (L.faults self.new.link) part outcome × Does result
             (assign_step self.old.given self.old.journal.events part outcome)
             self.old.journal.events self.new.journal.events }
         ensures refused { (fault : EngineFault) →
@@ -174,9 +175,10 @@ impl<'a, L: Link> Engine<'a, L> {
     /// Refuses with `Closed`, `UnknownPart`, `NotHeld`, `JournalFull`, `NoMemory` or `Client`, the
     /// first that applies.
     pub fn commit(&mut self, part: u32) -> Result<Committed, EngineFault>
-        ensures effect { (outcome : Result (Unit {0}) ClientFault) × (L.is_told self.old.link ≡ true
-            → CommitGives (L.store self.old.link) (L.store self.new.link) part
-            (commit_of self.old.given self.old.journal.events part).commit outcome) × Does result
+        ensures effect { (outcome : Result (Unit {0}) ClientFault) × IsStored
+            (L.is_told self.old.link) (L.store self.old.link) (L.store self.new.link)
+            (L.faults self.old.link) (L.faults self.new.link) part
+            (commit_of self.old.given self.old.journal.events part).commit outcome × Does result
             (commit_step self.old.given self.old.journal.events part outcome)
             self.old.journal.events self.new.journal.events }
         ensures refused { (fault : EngineFault) →

@@ -6,7 +6,7 @@ use Rattle.pc_engine.specs.declared.fault.EngineFault.{EngineFault}
 use Rattle.pc_model.specs.Broker.{Broker}
 use Rattle.pc_offset_client.specs.declared.fault.ClientFault.{ClientFault}
 use Rattle.pc_offset_client.specs.Client.{FetchGives, kept_for}
-use Rattle.pc_engine.specs.Effect.{Does, assign_step, assign_refusal}
+use Rattle.pc_engine.specs.Effect.{Does, IsFetched, assign_step, assign_refusal}
 use Rattle.pc_engine.specs.Engine.{given_by}
 use Rattle.pc_engine.proofs.EngineLemmas.{refused-none, assign-below, epoch-small, assigned-given, assign-refused, assign-unmade, assign-misread, assigned-keeps, assigned-does}
 use Rattle.pc_engine.proofs.engine.Engine.assign.Goals as goal
@@ -96,13 +96,14 @@ returns-clause-effect g c =
     (length c.self.inside.parts.items) c.self.inside.journal.events
     (g.L.Link.is_told c.self.inside.client.link) (kept_for (g.L.Link.store c.self.inside.client.link)))
     c.self.inside.journal.events c.args.part ≡ None = rw (← c.self.view_is) at none in
-    subst (λ v. (x : Result Commit ClientFault) × (g.L.Link.is_told v.link ≡ true
-    → FetchGives (g.L.Link.store v.link) c.args.part x) × Does {A = Unit {0}} (Ok tt)
+    subst (λ v. (x : Result Commit ClientFault) × IsFetched (g.L.Link.is_told v.link)
+    (g.L.Link.store v.link) (g.L.Link.faults v.link) (g.L.Link.faults c.fetch.new.self.link)
+    c.args.part x × Does {A = Unit {0}} (Ok tt)
     (assign_step v.given v.journal.events c.args.part x) v.journal.events
     c.push.new.self.events)
     c.self.view_is (
       Ok c.in_ok-stored.stored,
-      c.in_ok-stored.ensures.gives,
+      record { cause = c.in_ok-stored.ensures.cause; gives = c.in_ok-stored.ensures.gives },
       assigned-does c.self.inside.setup.now c.self.inside.journal.events
           (g.L.Link.is_told c.self.inside.client.link) (kept_for (g.L.Link.store c.self.inside.client.link))
           c.self.inside.parts.items c.self.invariant c.args.part inner c.in_ok-stored.stored
@@ -121,6 +122,7 @@ returns-in_err-may_assign-clause-effect g c =
     assign-refused c.from_residual.result c.in_err-may_assign.field-0.0 c.args.self.now.given c.args.self.now.journal.events
     c.args.self.now.journal.events c.args.part (g.L.Link.is_told c.args.self.now.link)
     (g.L.Link.store c.args.self.now.link)
+    (g.L.Link.faults c.args.self.now.link) _
     (got.1 ∙ ap (λ (x : EngineFault). Err x) got.2) c.in_err-may_assign.ensures refl
 
 pub returns-in_err-reserve-clause-effect : goal.returns-in_err-reserve-clause-effect
@@ -130,6 +132,7 @@ returns-in_err-reserve-clause-effect g c =
     assign-unmade c.from_residual-in_err-reserve.result c.args.self.now.given
     c.args.self.now.journal.events c.reserve.new.self.events c.args.part
     (g.L.Link.is_told c.args.self.now.link) (g.L.Link.store c.args.self.now.link)
+    (g.L.Link.faults c.args.self.now.link) _
     (got.1 ∙ ap (λ (x : EngineFault). Err x) got.2)
     (c.in_err-reserve.ensures.events ∙ ap (λ v. v.journal.events) c.self.view_is)
 
@@ -140,11 +143,14 @@ returns-in_err-check_map-clause-effect g c =
     assign-misread c.from_residual-in_err-check_map.result c.in_err-check_map.field-0.0 c.args.self.now.given
     c.args.self.now.journal.events c.reserve.new.self.events c.args.part
     (g.L.Link.is_told c.args.self.now.link) (g.L.Link.store c.args.self.now.link)
+    (g.L.Link.faults c.args.self.now.link) (g.L.Link.faults c.fetch.new.self.link)
     c.in_ok-stored.stored c.self.inside.setup.now.bad_map
     (got.1 ∙ ap (λ (x : EngineFault). Err x) got.2)
     (refused-none _ _ c.in_ok-may_assign.ensures)
-    (subst (λ v. g.L.Link.is_told v.link ≡ true → FetchGives (g.L.Link.store v.link) c.args.part
-    (Ok c.in_ok-stored.stored)) c.self.view_is c.in_ok-stored.ensures.gives)
+    (subst (λ v. IsFetched (g.L.Link.is_told v.link) (g.L.Link.store v.link)
+    (g.L.Link.faults v.link) (g.L.Link.faults c.fetch.new.self.link) c.args.part
+    (Ok c.in_ok-stored.stored)) c.self.view_is
+    (record { cause = c.in_ok-stored.ensures.cause; gives = c.in_ok-stored.ensures.gives }))
     (ap (λ v. v.given.setup.bad_map) c.self.view_is) c.in_err-check_map.ensures.fault
     (c.in_ok-reserve.ensures.events ∙ ap (λ v. v.journal.events) c.self.view_is)
 

@@ -9,7 +9,7 @@ use Rattle.pc_offset_client.specs.Client.{CommitGives, kept_for}
 use Rattle.pc_engine.specs.declared.engine.Committed.{Committed}
 use Rattle.pc_engine.specs.declared.fault.EngineFault.{EngineFault}
 use Rattle.pc_engine.specs.declared.fault.EngineFault.TheVariants.{Client}
-use Rattle.pc_engine.specs.Effect.{Does, StoresOnly, commit_step, commit_refusal}
+use Rattle.pc_engine.specs.Effect.{Does, IsStored, StoresOnly, commit_step, commit_refusal}
 use Rattle.pc_engine.specs.Engine.{given_by}
 use Rattle.pc_engine.proofs.EngineLemmas.{refused-none, part-below, may_commit, commit-gives, committed-given, committed-keeps, committed-does, failed-given, failed-keeps, failed-does, kept_for-accepts, may_keep-failed, stores_only-failed, stores_only-accepts, commit-refused, commit-unmade, same-failure, refused-not}
 use Rattle.pc_engine.proofs.engine.Engine.commit.Goals as goal
@@ -21,6 +21,7 @@ returns-in_err-may_commit-clause-effect g c =
     c.args.self.now.journal.events c.args.self.now.journal.events c.args.part
     (g.L.Link.is_told c.args.self.now.link) (g.L.Link.store c.args.self.now.link)
     (g.L.Link.store c.args.self.now.link)
+    (g.L.Link.faults c.args.self.now.link) _
     (got.1 ∙ ap (λ (x : EngineFault). Err x) got.2) c.in_err-may_commit.ensures refl refl
 
 pub returns-in_err-reserve-clause-effect : goal.returns-in_err-reserve-clause-effect
@@ -31,6 +32,7 @@ returns-in_err-reserve-clause-effect g c =
     c.args.self.now.journal.events c.reserve.new.self.events c.args.part
     (g.L.Link.is_told c.args.self.now.link) (g.L.Link.store c.args.self.now.link)
     (g.L.Link.store c.self.inside.client.link)
+    (g.L.Link.faults c.args.self.now.link) _
     (got.1 ∙ ap (λ (x : EngineFault). Err x) got.2)
     (ap (λ v. g.L.Link.store v.link) c.self.view_is)
     (c.in_err-reserve.ensures.events ∙ ap (λ v. v.journal.events) c.self.view_is)
@@ -137,21 +139,22 @@ returns-in-Ok-clause-effect g c =
     (length c.self.inside.parts.items) c.self.inside.journal.events
     (g.L.Link.is_told c.self.inside.client.link) (kept_for (g.L.Link.store c.self.inside.client.link)))
     c.self.inside.journal.events c.args.part ≡ None = rw (← c.self.view_is) at none in
-    subst (λ v. (x : Result (Unit {0}) ClientFault) × (g.L.Link.is_told v.link ≡ true
-    → CommitGives (g.L.Link.store v.link) (g.L.Link.store c.commit.new.self.link) c.args.part
-    (commit_of v.given v.journal.events c.args.part).commit x)
+    subst (λ v. (x : Result (Unit {0}) ClientFault) × IsStored (g.L.Link.is_told v.link)
+    (g.L.Link.store v.link) (g.L.Link.store c.commit.new.self.link) (g.L.Link.faults v.link)
+    (g.L.Link.faults c.commit.new.self.link) c.args.part
+    (commit_of v.given v.journal.events c.args.part).commit x
     × Does (Ok (record { position = c.index.result.now.begin; size = 0 }))
     (commit_step v.given v.journal.events c.args.part x) v.journal.events
     c.push.new.self.events) c.self.view_is (
       Ok tt,
-      (λ is. commit-gives c.self.inside.setup.now c.self.inside.journal.events
+      record { cause = c.in-Ok.ensures.cause; gives = λ is. commit-gives c.self.inside.setup.now c.self.inside.journal.events
           (g.L.Link.is_told c.self.inside.client.link) (kept_for (g.L.Link.store c.self.inside.client.link))
           c.self.inside.parts.items c.self.invariant c.args.part inner
           (kept_for (g.L.Link.store c.commit.new.self.link)) (g.L.Link.is_told c.commit.new.self.link)
           c.index.result.now c.index.result.now c.empty.result c.reserve.new.self.events
           c.push.new.self.events
           c.commit.ensures.told c.index.ensures c.empty.ensures c.in_ok-reserve.ensures.events
-          _ _ (Ok tt) (c.in-Ok.ensures.gives is)),
+          _ _ (Ok tt) (c.in-Ok.ensures.gives is) },
       committed-does c.self.inside.setup.now c.self.inside.journal.events
           (g.L.Link.is_told c.self.inside.client.link) (kept_for (g.L.Link.store c.self.inside.client.link))
           c.self.inside.parts.items c.self.invariant c.args.part inner
@@ -191,21 +194,22 @@ returns-in-Err g c =
     (g.L.Link.is_told c.self.inside.client.link) (kept_for (g.L.Link.store c.self.inside.client.link)))
     c.self.inside.journal.events c.args.part ≡ None = rw (← c.self.view_is) at none in
     record {
-      effect = subst (λ v. (x : Result (Unit {0}) ClientFault) × (g.L.Link.is_told v.link ≡ true
-          → CommitGives (g.L.Link.store v.link) (g.L.Link.store c.commit.new.self.link) c.args.part
-          (commit_of v.given v.journal.events c.args.part).commit x)
+      effect = subst (λ v. (x : Result (Unit {0}) ClientFault) × IsStored (g.L.Link.is_told v.link)
+    (g.L.Link.store v.link) (g.L.Link.store c.commit.new.self.link) (g.L.Link.faults v.link)
+    (g.L.Link.faults c.commit.new.self.link) c.args.part
+    (commit_of v.given v.journal.events c.args.part).commit x
           × Does {A = Committed} (Err (Client c.in-Err.fault))
           (commit_step v.given v.journal.events c.args.part x) v.journal.events
           c.push-in-Err.new.self.events) c.self.view_is (
             Err c.in-Err.fault,
-            (λ is. commit-gives c.self.inside.setup.now c.self.inside.journal.events
+            record { cause = c.in-Err.ensures.cause; gives = λ is. commit-gives c.self.inside.setup.now c.self.inside.journal.events
                 (g.L.Link.is_told c.self.inside.client.link) (kept_for (g.L.Link.store c.self.inside.client.link))
                 c.self.inside.parts.items c.self.invariant c.args.part inner
                 (kept_for (g.L.Link.store c.commit.new.self.link)) (g.L.Link.is_told c.commit.new.self.link)
                 c.index.result.now c.index.result.now c.empty.result c.reserve.new.self.events
                 c.push-in-Err.new.self.events
                 c.commit.ensures.told c.index.ensures c.empty.ensures c.in_ok-reserve.ensures.events
-                _ _ (Err c.in-Err.fault) (c.in-Err.ensures.gives is)),
+                _ _ (Err c.in-Err.fault) (c.in-Err.ensures.gives is) },
             failed-does c.self.inside.setup.now c.self.inside.journal.events
                 (g.L.Link.is_told c.self.inside.client.link) (kept_for (g.L.Link.store c.self.inside.client.link))
                 c.self.inside.parts.items c.self.invariant c.args.part inner
