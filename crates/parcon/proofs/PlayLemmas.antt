@@ -31,9 +31,10 @@ use Rattle.pc_engine.specs.declared.fault.EngineFault.{EngineFault}
 use Rattle.pc_engine.specs.declared.fault.EngineFault.TheVariants.{Client, Closed, UnknownPart, NoMemory}
 use Rattle.pc_engine.specs.declared.engine.Committed.{Committed}
 use Rattle.pc_engine.specs.Fault.{engine_fault_of}
-use Rattle.pc_engine.specs.Effect.{Step, Does, StoresOnly, assign_step, commit_step}
+use Rattle.pc_engine.specs.Effect.{Step, Does, IsFetched, IsStored, StoresOnly, assign_step, commit_step}
+use Rattle.pc_engine.proofs.EngineLemmas.{stores_only-same}
 use Rattle.parcon.specs.declared.remark.Remark.{Remark}
-use Rattle.parcon.specs.Play.{Asked, Play, HasCause, PlaysTo, after_line, made, played, remarks_on, start, step_of}
+use Rattle.parcon.specs.Play.{Asked, Play, HasCause, PlaysTo, after_line, done_by, made, played, remarks_on, start, step_of}
 use Rattle.parcon.specs.Promise.{IsKept, default_setup, default_in_range, given_of}
 use Rattle.parcon.proofs.ReadingLemmas.{risen-later, risen-earlier}
 
@@ -42,17 +43,15 @@ use Rattle.parcon.proofs.ReadingLemmas.{risen-later, risen-earlier}
 false-not-true : false ≡ true → ⊥
 false-not-true is = true-not-false true refl (sym is)
 
--- what an answer is called where it says that the link failed
-answer-failed : (r : Result (Unit {0}) EngineFault) (given : Given) (h h' : List Event) (p : ℕ) (o : Asked)
-    → Does r (assign_step given h p o) h h' → o ≡ Err LinkFailed → ?
-answer-failed = ?
+no-answer-failed : ◌≡◌ {A = Asked} (Err client.NoMemory) (Err LinkFailed) → ⊥
+no-answer-failed is = cc
 
 -- an assignment, with the commit that the link gave
-pub assigned : (given : Given) (h h' : List Event) (p : ℕ) (r : Result (Unit {0}) EngineFault)
-    (f f' : ℕ) (P : Asked → Type 0) → (r ≡ Err (Client LinkFailed) → HasRisen f f')
-    → (o : Asked) × P o × Does r (assign_step given h p o) h h'
+pub assigned : (told : Bool) (b : Broker) (given : Given) (h h' : List Event) (p : ℕ)
+    (r : Result (Unit {0}) EngineFault) (f f' : ℕ)
+    → (o : Asked) × IsFetched told b f f' p o × Does r (assign_step given h p o) h h'
     → (asked : Asked) × HasCause f f' asked × Does r (step_of given h (Assign p) asked) h h'
-assigned given h h' p r f f' P cause (o, told, does) = (o, ?, does)
+assigned told b given h h' p r f f' (o, fetched, does) = (o, fetched.cause, does)
 
 -- a commit does the same without its receipt
 does-made : (r : Result Committed EngineFault) (step : Step Committed) (h h' : List Event)
@@ -62,14 +61,20 @@ does-made (Ok x) step h h' does = (ap made does.0, does.1)
 does-made (Err NoMemory) step h h' does = does
 does-made (Err f) step h h' does = (ap made does.0, does.1)
 
-pub committed : (given : Given) (h h' : List Event) (p : ℕ) (r : Result Committed EngineFault)
-    (f f' : ℕ) (c : StoredCommit) → (r ≡ Err (Client LinkFailed) → HasRisen f f')
-    → Does r (commit_step given h p (link_failed r)) h h'
+pub committed : (told : Bool) (b b' : Broker) (given : Given) (h h' : List Event) (p : ℕ)
+    (r : Result Committed EngineFault) (f f' : ℕ) (c : StoredCommit)
+    → (o : Result (Unit {0}) ClientFault) × IsStored told b b' f f' p c o
+    × Does r (commit_step given h p o) h h'
     → (asked : Asked) × HasCause f f' asked × Does (made r) (step_of given h (Commit p) asked) h h'
-committed given h h' p r f f' c cause does = (
-  record { failed = link_failed r; gave = c },
-  failed-cause r f f' cause c,
-  does-made r (commit_step given h p (link_failed r)) h h' does,
+committed told b b' given h h' p r f f' c (Ok done, stored, does) = (
+  Ok no_commit,
+  λ is. cc,
+  does-made r (commit_step given h p (Ok done)) h h' does,
+)
+committed told b b' given h h' p r f f' c (Err fault, stored, does) = (
+  Err fault,
+  λ is. stored.cause (ap done_by is),
+  does-made r (commit_step given h p (Err fault)) h h' does,
 )
 
 -- a line that is not built makes no call
@@ -79,42 +84,25 @@ pub none-made : (given : Given) (h : List Event) (act : PlayAct) (f : ℕ)
 none-made given h (Assign p) f not_assign not_commit = absurd (not_assign p refl)
 none-made given h (Commit p) f not_assign not_commit = absurd (not_commit p refl)
 none-made given h act f not_assign not_commit = (
-  record { failed = false; gave = no_commit },
-  λ is. absurd (false-not-true is),
+  Err client.NoMemory,
+  λ is. absurd (no-answer-failed is),
   (refl, refl),
 )
 
--- a part without a log is refused
-refused-unknown : (given : Given) (h : List Event) (p : ℕ) → has_log given p ≡ false
-    → (commit_refusal given h p ≡ Some Closed) ⊎ (commit_refusal given h p ≡ Some UnknownPart)
-refused-unknown given h p none = elim (cases_Bool (has_ended h)) [
-  | inl ended ↦ inl (rw ended refl)
-  | inr runs ↦ inr (rw (runs, none) refl)
-]
+-- what is stored changed for some parts alone, and then again
+stores_only-trans : (may : ℕ → Bool) (a b c : Broker) → StoresOnly may a b → StoresOnly may b c
+    → StoresOnly may a c
+stores_only-trans may a b c first then_more = record {
+  topic = then_more.topic ∙ first.topic;
+  parts = then_more.parts ∙ first.parts;
+  memberships = then_more.memberships ∙ first.memberships;
+  others = λ group q out. then_more.others group q out ∙ first.others group q out;
+}
 
-not-refused : (r : Result Committed EngineFault) (given : Given) (h : List Event) (p : ℕ)
-    → ((fault : EngineFault) → commit_refusal given h p ≡ Some fault → r ≡ Err fault)
-    → (r ≡ Err Closed → ⊥) → (r ≡ Err UnknownPart → ⊥) → has_log given p ≡ false → ⊥
-not-refused r given h p refused not_closed not_unknown none =
-    elim (refused-unknown given h p none) [
-      | inl is ↦ not_closed (refused Closed is)
-      | inr is ↦ not_unknown (refused UnknownPart is)
-    ]
-
--- for a part without a log the link keeps what it kept
-pub kept-others : (r : Result Committed EngineFault) (kept kept' : ℕ → StoredCommit) (p : ℕ)
-    (c : StoredCommit) (given : Given) (h : List Event)
-    → ((fault : EngineFault) → commit_refusal given h p ≡ Some fault → r ≡ Err fault)
-    → KeepsAfter r kept kept' p c
-    → (q : ℕ) → has_log given q ≡ false → kept' q ≡ kept q
-kept-others (Ok x) kept kept' p c given h refused keeps q none =
-    keeps.others q (λ (e : q ≡ p). not-refused (Ok x) given h p refused (λ is. cc) (λ is. cc)
-    (subst (λ (u : ℕ). has_log given u ≡ false) e none))
-kept-others (Err (Client LinkFailed)) kept kept' p c given h refused (inl all) q none = all q
-kept-others (Err (Client LinkFailed)) kept kept' p c given h refused (inr at) q none =
-    at.others q (λ (e : q ≡ p). not-refused (Err (Client LinkFailed)) given h p refused
-    (λ is. cc) (λ is. cc) (subst (λ (u : ℕ). has_log given u ≡ false) e none))
-kept-others (Err f) kept kept' p c given h refused keeps q none = keeps q
+pub stores_only-next : (may may' : ℕ → Bool) (a b c : Broker) → may' ≡ may → StoresOnly may a b
+    → StoresOnly may' b c → StoresOnly may a c
+stores_only-next may may' a b c same first then_more = stores_only-trans may a b c first
+    (subst (λ (m : ℕ → Bool). StoresOnly m b c) same then_more)
 
 -- ---- one line
 
@@ -227,20 +215,20 @@ plays-next given s t u lines i line d f0 f1 f2 le more below is plays step =
 
 -- ---- the whole play
 
--- the link kept for parts without a log what it kept before the lines, too
-pub kept-from : (given given' : Given) (told told' : Bool) (kept0 kept kept' : ℕ → StoredCommit)
+-- the lines changed what is stored for the parts with a log alone, too
+pub kept-from : (given given' : Given) (told told' : Bool) (store0 store store' : Broker)
     (h : List Event) → given' ≡ given → given'.is_told ≡ told' → told' ≡ told
-    → (told ≡ true → (q : ℕ) → has_log given q ≡ false → kept q ≡ kept0 q)
-    → IsKept given' kept kept' h → IsKept given kept0 kept' h
-kept-from given given' told told' kept0 kept kept' h same told_is same_told keeps is = record {
+    → (told ≡ true → StoresOnly (has_log given) store0 store)
+    → IsKept given' store store' h → IsKept given store0 store' h
+kept-from given given' told told' store0 store store' h same told_is same_told keeps is = record {
   legal = subst (λ (x : Given). IsLegal x h) same is.legal;
-  stored = λ t p log. subst (λ (x : Given). In (kept' p) (may_store x h p)) same
+  stored = λ t p log. subst (λ (x : Given). In (kept_for store' p) (may_store x h p)) same
       (is.stored (ap (λ (x : Given). x.is_told) same ∙ t) p
       (ap (λ (x : Given). has_log x p) same ∙ log));
-  others = λ t q none.
-      is.others (ap (λ (x : Given). x.is_told) same ∙ t) q
-      (ap (λ (x : Given). has_log x q) same ∙ none)
-      ∙ keeps (sym same_told ∙ sym told_is ∙ ap (λ (x : Given). x.is_told) same ∙ t) q none;
+  others = λ t. stores_only-next (has_log given) (has_log given') store0 store store'
+      (ap has_log same)
+      (keeps (sym same_told ∙ sym told_is ∙ ap (λ (x : Given). x.is_told) same ∙ t))
+      (is.others (ap (λ (x : Given). x.is_told) same ∙ t));
 }
 
 pub plays-from-start : (given : Given) (h : List Event) (remarks : List Remark)
@@ -285,17 +273,18 @@ default-is s values = same-setup (settings_of s) default_settings values s.in_ra
 
 -- ---- before any line
 
-stored-at-start : (told : Bool) (kept : ℕ → StoredCommit) → told ≡ true → (p : ℕ)
-    → has_log (given_of told kept) p ≡ true → In (kept p) (may_store (given_of told kept) [] p)
-stored-at-start true kept is zero log = inl refl
-stored-at-start true kept is (suc p) log = absurd (false-not-true log)
-stored-at-start false kept is p log = absurd (false-not-true is)
+stored-at-start : (told : Bool) (store : Broker) → told ≡ true → (p : ℕ)
+    → has_log (given_of told store) p ≡ true
+    → In (kept_for store p) (may_store (given_of told store) [] p)
+stored-at-start true store is zero log = inl refl
+stored-at-start true store is (suc p) log = absurd (false-not-true log)
+stored-at-start false store is p log = absurd (false-not-true is)
 
-pub kept-at-start : (told : Bool) (kept : ℕ → StoredCommit) → IsKept (given_of told kept) kept kept []
-kept-at-start told kept = record {
+pub kept-at-start : (told : Bool) (store : Broker) → IsKept (given_of told store) store store []
+kept-at-start told store = record {
   legal = refl;
-  stored = λ t p log. stored-at-start told kept t p log;
-  others = λ t p none. refl;
+  stored = λ t p log. stored-at-start told store t p log;
+  others = λ t. stores_only-same (has_log (given_of told store)) store store refl;
 }
 
 -- ---- what an answer says

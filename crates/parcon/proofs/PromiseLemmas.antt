@@ -2,7 +2,9 @@
 use Rattle.std.proofs.Common.{◌≡◌, ◌⊎◌, inl, inr, ℕ, zero, suc, Bool, true, false, List, [], ◌++◌, Option, Result, Ok, Err, refl, ap, sym, subst, ◌∙◌}
 use Rattle.std.specs.Prelude.{MatchResult, IfOk}
 use Rattle.std.proofs.lemmas.List.{append-nil}
-use Rattle.pc_model.specs.declared.commit.Commit.{Commit}
+use Rattle.pc_model.specs.Broker.{Broker}
+use Rattle.pc_offset_client.specs.Client.{kept_for}
+use Rattle.pc_engine.specs.Effect.{StoresOnly}
 use Rattle.pc_model.specs.declared.event.Event.{Event}
 use Rattle.pc_model.specs.Given.{has_log}
 use Rattle.pc_model.specs.Lawful.{IsLegal}
@@ -74,7 +76,7 @@ module _ (words : List (List ℕ)) (before after : Outside) where
       asked = [];
       causes = tt;
       decided = ap (λ (l : Result (List PlayLine) Status).
-          ending_after (given_of before.is_told before.kept) l []) files.lines;
+          ending_after (given_of before.is_told before.store) l []) files.lines;
     });
     history_is = none;
     output = written;
@@ -98,7 +100,7 @@ module _ (words : List (List ℕ)) (before after : Outside) where
   pub ends-played : {V E : Type 0} (items : V → List Remark) (lines : List PlayLine)
       (remarks : Result V E) (given : Status) (h h' : List Event)
       → IsFromFiles words before.contents before.read_faults after.read_faults (Ok lines)
-      → IfOk remarks (λ r. PlaysTo (given_of before.is_told before.kept) start lines
+      → IfOk remarks (λ r. PlaysTo (given_of before.is_told before.store) start lines
       before.link_faults after.link_faults (record { history = h'; remarks = items r }))
       → h ≡ h'
       → MatchResult remarks
@@ -115,7 +117,7 @@ module _ (words : List (List ℕ)) (before after : Outside) where
       asked = plays.asked;
       causes = plays.causes;
       decided = ap (λ (l : Result (List PlayLine) Status).
-          ending_after (given_of before.is_told before.kept) l plays.asked) files.lines
+          ending_after (given_of before.is_told before.store) l plays.asked) files.lines
           ∙ ap (λ (p : Play). record { status = Whole; play = p }) plays.end;
     });
     history_is = same;
@@ -132,38 +134,32 @@ module _ (words : List (List ℕ)) (before after : Outside) where
         given written.0 written.1;
   }
 
--- ---- the parts
-
-pub no-other-log : (told : Bool) (kept : ℕ → Commit) (p : ℕ) → (p ≡ 0 → ⊥)
-    → has_log (given_of told kept) p ≡ false
-no-other-log told kept zero other = absurd (other refl)
-no-other-log told kept (suc p) other = refl
-
 -- ---- from what a play keeps
 
--- a history that is kept is sound over a link that tells what it keeps, and orderly
-pub record KeepsPromise (told : Bool) (kept kept' : ℕ → Commit) (h : List Event) : Type 0 where
-  pub legal : IsLegal (given_of told kept) h
-  pub sound : told ≡ true → IsSound (given_of told kept) h
-  pub orderly : IsOrderly (given_of told kept) h
-  pub stored : told ≡ true → In (kept' 0) (may_store (given_of told kept) h 0)
-  pub others : told ≡ true → (p : ℕ) → (p ≡ 0 → ⊥) → kept' p ≡ kept p
+-- a history that is kept is sound over a link that tells its store, and orderly
+pub record KeepsPromise (told : Bool) (store store' : Broker) (h : List Event) : Type 0 where
+  pub legal : IsLegal (given_of told store) h
+  pub sound : told ≡ true → IsSound (given_of told store) h
+  pub orderly : IsOrderly (given_of told store) h
+  pub stored : told ≡ true → In (kept_for store' 0) (may_store (given_of told store) h 0)
+  pub others : told ≡ true → StoresOnly (has_log (given_of told store)) store store'
 
-pub keeps-promise : (told : Bool) (kept kept' : ℕ → Commit) (h h' : List Event)
-    → IsKept (given_of told kept) kept kept' h → h' ≡ h → KeepsPromise told kept kept' h'
-keeps-promise told kept kept' h h' is same =
-    let legal : IsLegal (given_of told kept) h' =
-    subst (IsLegal (given_of told kept)) (sym same) is.legal in
+pub keeps-promise : (told : Bool) (store store' : Broker) (h h' : List Event)
+    → IsKept (given_of told store) store store' h → h' ≡ h → KeepsPromise told store store' h'
+keeps-promise told store store' h h' is same =
+    let legal : IsLegal (given_of told store) h' =
+    subst (IsLegal (given_of told store)) (sym same) is.legal in
     record {
       legal = legal;
-      sound = λ t. is_sound (given_of told kept) h' t legal;
-      orderly = is_orderly (given_of told kept) h' legal;
-      stored = λ t. subst (λ (k : List Event). In (kept' 0) (may_store (given_of told kept) k 0))
+      sound = λ t. is_sound (given_of told store) h' t legal;
+      orderly = is_orderly (given_of told store) h' legal;
+      stored = λ t. subst
+          (λ (k : List Event). In (kept_for store' 0) (may_store (given_of told store) k 0))
           (sym same) (is.stored t 0 refl);
-      others = λ t p other. is.others t p (no-other-log told kept p other);
+      others = is.others;
     }
 
-pub keeps-promise-none : (told : Bool) (kept : ℕ → Commit) (h : List Event) → h ≡ []
-    → KeepsPromise told kept kept h
-keeps-promise-none told kept h none =
-    keeps-promise told kept kept [] h (kept-at-start told kept) none
+pub keeps-promise-none : (told : Bool) (store : Broker) (h : List Event) → h ≡ []
+    → KeepsPromise told store store h
+keeps-promise-none told store h none =
+    keeps-promise told store store [] h (kept-at-start told store) none

@@ -15,18 +15,18 @@ returns-in-Ok-clause-ends g c =
     (record {
       contents = g.F.Files.told c.args.files.now;
       read_faults = g.F.Files.faults c.args.files.now;
-      is_told = g.K.Keeper.is_told c.args.link;
-      kept = g.K.Keeper.kept c.args.link;
-      link_faults = g.K.Keeper.faults c.args.link;
+      is_told = g.L.Link.is_told c.args.link;
+      store = g.L.Link.store c.args.link;
+      link_faults = g.L.Link.faults c.args.link;
       written = g.O.Sink.written c.args.out.now;
       write_faults = g.O.Sink.faults c.args.out.now;
     })
     (record {
       contents = g.F.Files.told c.script_to_play.new.files;
       read_faults = g.F.Files.faults c.script_to_play.new.files;
-      is_told = g.K.Keeper.is_told c.tell.result.link;
-      kept = g.K.Keeper.kept c.tell.result.link;
-      link_faults = g.K.Keeper.faults c.tell.result.link;
+      is_told = g.L.Link.is_told c.tell.result.link;
+      store = g.L.Link.store c.tell.result.link;
+      link_faults = g.L.Link.faults c.tell.result.link;
       written = g.O.Sink.written c.tell.new.out;
       write_faults = g.O.Sink.faults c.tell.new.out;
     })
@@ -37,55 +37,55 @@ returns-in-Ok-clause-ends g c =
     (g.F.Files.faults c.script_to_play.new.files) (Ok lines)) (sym c.as_slice.ensures)
     (was-read c.in-Ok.script c.in-Ok.ensures))
     (subst (λ l. IfOk c.play.result.remarks (λ remarks. PlaysTo
-    (given_of (g.K.Keeper.is_told c.args.link) (g.K.Keeper.kept c.args.link)) start
-    c.as_slice.result.now (g.K.Keeper.faults c.args.link) (g.K.Keeper.faults l)
+    (given_of (g.L.Link.is_told c.args.link) (g.L.Link.store c.args.link)) start
+    c.as_slice.result.now (g.L.Link.faults c.args.link) (g.L.Link.faults l)
     (record { history = c.play.result.journal.events; remarks = remarks.items })))
     (sym c.tell.ensures.link) c.play.ensures.played)
     c.tell.ensures.journal c.tell.ensures.written
 
 pub returns-in-Ok-clause-legal : goal.returns-in-Ok-clause-legal
-returns-in-Ok-clause-legal g c = (keeps-promise (g.K.Keeper.is_told c.args.link)
-    (g.K.Keeper.kept c.args.link) (g.K.Keeper.kept c.tell.result.link)
+returns-in-Ok-clause-legal g c = (keeps-promise (g.L.Link.is_told c.args.link)
+    (g.L.Link.store c.args.link) (g.L.Link.store c.tell.result.link)
     c.play.result.journal.events c.tell.result.journal.events
-    (subst (λ l. IsKept (given_of (g.K.Keeper.is_told c.args.link) (g.K.Keeper.kept c.args.link))
-    (g.K.Keeper.kept c.args.link) (g.K.Keeper.kept l) c.play.result.journal.events)
+    (subst (λ l. IsKept (given_of (g.L.Link.is_told c.args.link) (g.L.Link.store c.args.link))
+    (g.L.Link.store c.args.link) (g.L.Link.store l) c.play.result.journal.events)
     (sym c.tell.ensures.link) c.play.ensures.kept) c.tell.ensures.journal).legal
 
 pub returns-in-Ok-clause-sound : goal.returns-in-Ok-clause-sound
-returns-in-Ok-clause-sound g c = (keeps-promise (g.K.Keeper.is_told c.args.link)
-    (g.K.Keeper.kept c.args.link) (g.K.Keeper.kept c.tell.result.link)
+returns-in-Ok-clause-sound g c = (keeps-promise (g.L.Link.is_told c.args.link)
+    (g.L.Link.store c.args.link) (g.L.Link.store c.tell.result.link)
     c.play.result.journal.events c.tell.result.journal.events
-    (subst (λ l. IsKept (given_of (g.K.Keeper.is_told c.args.link) (g.K.Keeper.kept c.args.link))
-    (g.K.Keeper.kept c.args.link) (g.K.Keeper.kept l) c.play.result.journal.events)
+    (subst (λ l. IsKept (given_of (g.L.Link.is_told c.args.link) (g.L.Link.store c.args.link))
+    (g.L.Link.store c.args.link) (g.L.Link.store l) c.play.result.journal.events)
     (sym c.tell.ensures.link) c.play.ensures.kept) c.tell.ensures.journal).sound
 
 pub returns-in-Ok-clause-orderly : goal.returns-in-Ok-clause-orderly
-returns-in-Ok-clause-orderly g c = (keeps-promise (g.K.Keeper.is_told c.args.link)
-    (g.K.Keeper.kept c.args.link) (g.K.Keeper.kept c.tell.result.link)
+returns-in-Ok-clause-orderly g c = (keeps-promise (g.L.Link.is_told c.args.link)
+    (g.L.Link.store c.args.link) (g.L.Link.store c.tell.result.link)
     c.play.result.journal.events c.tell.result.journal.events
-    (subst (λ l. IsKept (given_of (g.K.Keeper.is_told c.args.link) (g.K.Keeper.kept c.args.link))
-    (g.K.Keeper.kept c.args.link) (g.K.Keeper.kept l) c.play.result.journal.events)
+    (subst (λ l. IsKept (given_of (g.L.Link.is_told c.args.link) (g.L.Link.store c.args.link))
+    (g.L.Link.store c.args.link) (g.L.Link.store l) c.play.result.journal.events)
     (sym c.tell.ensures.link) c.play.ensures.kept) c.tell.ensures.journal).orderly
 
 pub returns-in-Ok-clause-stored : goal.returns-in-Ok-clause-stored
-returns-in-Ok-clause-stored g c = (keeps-promise (g.K.Keeper.is_told c.args.link)
-    (g.K.Keeper.kept c.args.link) (g.K.Keeper.kept c.tell.result.link)
+returns-in-Ok-clause-stored g c = (keeps-promise (g.L.Link.is_told c.args.link)
+    (g.L.Link.store c.args.link) (g.L.Link.store c.tell.result.link)
     c.play.result.journal.events c.tell.result.journal.events
-    (subst (λ l. IsKept (given_of (g.K.Keeper.is_told c.args.link) (g.K.Keeper.kept c.args.link))
-    (g.K.Keeper.kept c.args.link) (g.K.Keeper.kept l) c.play.result.journal.events)
+    (subst (λ l. IsKept (given_of (g.L.Link.is_told c.args.link) (g.L.Link.store c.args.link))
+    (g.L.Link.store c.args.link) (g.L.Link.store l) c.play.result.journal.events)
     (sym c.tell.ensures.link) c.play.ensures.kept) c.tell.ensures.journal).stored
 
 pub returns-in-Ok-clause-others : goal.returns-in-Ok-clause-others
-returns-in-Ok-clause-others g c = (keeps-promise (g.K.Keeper.is_told c.args.link)
-    (g.K.Keeper.kept c.args.link) (g.K.Keeper.kept c.tell.result.link)
+returns-in-Ok-clause-others g c = (keeps-promise (g.L.Link.is_told c.args.link)
+    (g.L.Link.store c.args.link) (g.L.Link.store c.tell.result.link)
     c.play.result.journal.events c.tell.result.journal.events
-    (subst (λ l. IsKept (given_of (g.K.Keeper.is_told c.args.link) (g.K.Keeper.kept c.args.link))
-    (g.K.Keeper.kept c.args.link) (g.K.Keeper.kept l) c.play.result.journal.events)
+    (subst (λ l. IsKept (given_of (g.L.Link.is_told c.args.link) (g.L.Link.store c.args.link))
+    (g.L.Link.store c.args.link) (g.L.Link.store l) c.play.result.journal.events)
     (sym c.tell.ensures.link) c.play.ensures.kept) c.tell.ensures.journal).others
 
 pub returns-in-Err : goal.returns-in-Err
 returns-in-Err g c =
-    let kept = keeps-promise-none (g.K.Keeper.is_told c.args.link) (g.K.Keeper.kept c.args.link)
+    let kept = keeps-promise-none (g.L.Link.is_told c.args.link) (g.L.Link.store c.args.link)
     c.new.result.events c.new.ensures.empty in
     record {
       legal = kept.legal;
@@ -97,18 +97,18 @@ returns-in-Err g c =
           (record {
             contents = g.F.Files.told c.args.files.now;
             read_faults = g.F.Files.faults c.args.files.now;
-            is_told = g.K.Keeper.is_told c.args.link;
-            kept = g.K.Keeper.kept c.args.link;
-            link_faults = g.K.Keeper.faults c.args.link;
+            is_told = g.L.Link.is_told c.args.link;
+            store = g.L.Link.store c.args.link;
+            link_faults = g.L.Link.faults c.args.link;
             written = g.O.Sink.written c.args.out.now;
             write_faults = g.O.Sink.faults c.args.out.now;
           })
           (record {
             contents = g.F.Files.told c.script_to_play.new.files;
             read_faults = g.F.Files.faults c.script_to_play.new.files;
-            is_told = g.K.Keeper.is_told c.args.link;
-            kept = g.K.Keeper.kept c.args.link;
-            link_faults = g.K.Keeper.faults c.args.link;
+            is_told = g.L.Link.is_told c.args.link;
+            store = g.L.Link.store c.args.link;
+            link_faults = g.L.Link.faults c.args.link;
             written = g.O.Sink.written c.tell_fault.new.out;
             write_faults = g.O.Sink.faults c.tell_fault.new.out;
           })

@@ -7,34 +7,34 @@ use Rattle.parcon.proofs.play.play_on.Goals as goal
 
 pub returns-in-Ok-clause-kept : goal.returns-in-Ok-clause-kept
 returns-in-Ok-clause-kept g c = kept-from c.args.engine.given c.play_lines.new.engine.given
-    (g.K.Keeper.is_told c.args.engine.link) (g.K.Keeper.is_told c.play_lines.new.engine.link)
-    (g.K.Keeper.kept c.args.engine.link) (g.K.Keeper.kept c.play_lines.new.engine.link)
-    (g.K.Keeper.kept c.left.result.link) c.left.result.journal.events c.play_lines.ensures.given
+    (g.L.Link.is_told c.args.engine.link) (g.L.Link.is_told c.play_lines.new.engine.link)
+    (g.L.Link.store c.args.engine.link) (g.L.Link.store c.play_lines.new.engine.link)
+    (g.L.Link.store c.left.result.link) c.left.result.journal.events c.play_lines.ensures.given
     c.left.ensures.told c.play_lines.ensures.told c.play_lines.ensures.keeps c.left.ensures.kept
 
 pub returns-in-Err-clause-kept : goal.returns-in-Err-clause-kept
 returns-in-Err-clause-kept g c = kept-from c.args.engine.given c.play_lines.new.engine.given
-    (g.K.Keeper.is_told c.args.engine.link) (g.K.Keeper.is_told c.play_lines.new.engine.link)
-    (g.K.Keeper.kept c.args.engine.link) (g.K.Keeper.kept c.play_lines.new.engine.link)
-    (g.K.Keeper.kept c.left-in-Err.result.link) c.left-in-Err.result.journal.events c.play_lines.ensures.given
+    (g.L.Link.is_told c.args.engine.link) (g.L.Link.is_told c.play_lines.new.engine.link)
+    (g.L.Link.store c.args.engine.link) (g.L.Link.store c.play_lines.new.engine.link)
+    (g.L.Link.store c.left-in-Err.result.link) c.left-in-Err.result.journal.events c.play_lines.ensures.given
     c.left-in-Err.ensures.told c.play_lines.ensures.told c.play_lines.ensures.keeps c.left-in-Err.ensures.kept
 
 pub returns-in-Ok-clause-played : goal.returns-in-Ok-clause-played
 returns-in-Ok-clause-played g c =
     if_ok c.left.result.remarks c.play_lines.new.remarks _ c.left.ensures.remarks
     (subst (λ (h : History). PlaysTo c.args.engine.given start c.args.lines.now
-    (g.K.Keeper.faults c.args.engine.link) (g.K.Keeper.faults c.left.result.link)
+    (g.L.Link.faults c.args.engine.link) (g.L.Link.faults c.left.result.link)
     (record { history = h.events; remarks = c.play_lines.new.remarks.items }))
     (sym c.left.ensures.journal)
     (subst (λ l. PlaysTo c.args.engine.given start c.args.lines.now
-    (g.K.Keeper.faults c.args.engine.link) (g.K.Keeper.faults l)
+    (g.L.Link.faults c.args.engine.link) (g.L.Link.faults l)
     (record {
       history = c.play_lines.new.engine.journal.events;
       remarks = c.play_lines.new.remarks.items;
     })) (sym c.left.ensures.link)
     (plays-from-start c.args.engine.given c.args.engine.journal.events
-    c.new-remarks.result.items c.args.lines.now (g.K.Keeper.faults c.args.engine.link)
-    (g.K.Keeper.faults c.play_lines.new.engine.link) _ c.requires c.new-remarks.ensures.items
+    c.new-remarks.result.items c.args.lines.now (g.L.Link.faults c.args.engine.link)
+    (g.L.Link.faults c.play_lines.new.engine.link) _ c.requires c.new-remarks.ensures.items
     c.in-Ok.ensures.ok)))
 
 pub returns-in-Err-clause-played : goal.returns-in-Err-clause-played
