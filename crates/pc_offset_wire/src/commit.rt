@@ -113,7 +113,7 @@ impl<'a> CommitRequest<'a> {
         ensures { items_left (topic_at commit_item_at) result
             ≡ (commit_request_of self.now).topics }
     {
-        self.topics
+        Items::of(self.topics.bytes, self.topics.count)
     }
 }
 
@@ -122,7 +122,7 @@ impl<'a> CommitReply<'a> {
     pub fn topics(&self) -> CodeTopics<'a>
         ensures { items_left (topic_at commit_code_at) result ≡ (commit_reply_of self.now).topics }
     {
-        self.topics
+        Items::of(self.topics.bytes, self.topics.count)
     }
 }
 

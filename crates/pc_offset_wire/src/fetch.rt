@@ -96,7 +96,7 @@ impl<'a> FetchRequest<'a> {
     pub fn topics(&self) -> PartTopics<'a>
         ensures { items_left (topic_at part_id_at) result ≡ (fetch_request_of self.now).topics }
     {
-        self.topics
+        Items::of(self.topics.bytes, self.topics.count)
     }
 }
 
@@ -105,7 +105,7 @@ impl<'a> FetchReply<'a> {
     pub fn topics(&self) -> EntryTopics<'a>
         ensures { items_left (topic_at entry_at) result ≡ (fetch_reply_of self.now).topics }
     {
-        self.topics
+        Items::of(self.topics.bytes, self.topics.count)
     }
 }
 

@@ -27,9 +27,22 @@ pub trait WireItem<'a>: Copy {
 /// The items of an array that are left.
 #[derive(Clone, Copy, Debug)]
 pub struct Items<'a, T> {
-    bytes: &'a [u8],
-    count: u32,
+    pub(crate) bytes: &'a [u8],
+    pub(crate) count: u32,
     of: PhantomData<T>,
+}
+
+impl<'a, T> Items<'a, T> {
+    /// The same items.
+    pub(crate) fn of(bytes: &'a [u8], count: u32) -> Items<'a, T>
+        ensures { result ≡ record { bytes = bytes.entry; count = count; of = record { } } }
+    {
+        Items {
+            bytes,
+            count,
+            of: PhantomData,
+        }
+    }
 }
 
 /// Passes over so many items.
