@@ -1,6 +1,6 @@
 //! Arrays, read in place: clauses see of one the list of its items that are left.
 
-ghost use Rattle.std.specs.Prelude.{◌≡◌, ℕ, List, Result};
+ghost use Rattle.std.specs.Prelude.{◌≡◌, length, ℕ, List, Result};
 ghost use Rattle.pc_model.specs.declared.wire_fault.WireFault.{WireFault};
 ghost use Rattle.pc_model.specs.MessageReading.{array_at};
 ghost use Rattle.pc_offset_wire.specs.Reading.{Gives};
@@ -71,6 +71,15 @@ pub(crate) fn array<'a, T: WireItem<'a>>(bytes: &'a [u8]) -> Result<(Items<'a, T
         },
         rest,
     ))
+}
+
+impl<'a, T: WireItem<'a>> Items<'a, T> {
+    /// How many items are left.
+    pub(crate) fn len(&self) -> usize
+        ensures { result ≡ length (items_left T.at self.now) }
+    {
+        self.count()
+    }
 }
 
 impl<'a, T: WireItem<'a>> Iterator for Items<'a, T> {

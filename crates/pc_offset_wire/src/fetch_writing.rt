@@ -1,0 +1,156 @@
+//! OffsetFetch: its request and its reply, written.
+
+ghost use Rattle.std.specs.Prelude.{◌≡◌, ℕ, List, All, length, map, IfOk, Err};
+ghost use Rattle.std.specs.Option.{option_copied};
+ghost use Rattle.pc_model.specs.Messages.{IsFetchRequest, IsFetchReply, fetch_request_body, fetch_reply_body};
+ghost use Rattle.pc_offset_wire.specs.declared.write_fault.WireWriteFault.TheVariants.{TooLong};
+ghost use Rattle.pc_offset_wire.specs.Views.{fetch_entry_of, fetch_request_of};
+ghost use Rattle.pc_offset_wire.specs.Writing.{Puts, fetch_message, IsFetchBody, IsFetchReplyBody};
+ghost use Rattle.pc_offset_wire.specs.Replies.{item_count, fetch_reply_to, IsAnswerable};
+
+use crate::answer::{self, Answered};
+use crate::fetch::{FetchEntry, FetchRequest};
+use crate::put::{self, PutItem};
+use crate::write_fault::WireWriteFault;
+use pc_model::api::{OFFSET_FETCH, OFFSET_FETCH_VERSION};
+use std::alloc::Global;
+
+/// A topic, and some of its parts.
+#[derive(Clone, Copy, Debug)]
+pub struct FetchTopic<'a> {
+    pub name: &'a str,
+    pub parts: &'a [i32],
+}
+
+impl PutItem for i32 {
+    ghost use Rattle.std.specs.Prelude.{ℤ};
+    ghost use Rattle.pc_model.specs.Messages.{part_spelling, IsPart};
+
+    ghost Plain = { ℤ };
+    ghost plain = { λ part. part };
+    ghost spelled = { part_spelling };
+    ghost IsItem = { IsPart };
+    ghost IsPutable = { λ _. Unit {0} };
+
+    fn put(&self, out: &mut Vec<u8>) -> Result<(), WireWriteFault> {
+        put::put_i32(out, *self)?;
+        Ok(())
+    }
+}
+
+impl PutItem for FetchTopic<'_> {
+    ghost use Rattle.std.specs.Prelude.{ℤ};
+    ghost use Rattle.pc_model.specs.Messages.{Topic, part_spelling, topic_spelling, IsPart, IsTopic};
+    ghost use Rattle.pc_offset_wire.specs.Writing.{fetch_topic_of};
+
+    ghost Plain = { Topic ℤ };
+    ghost plain = { fetch_topic_of };
+    ghost spelled = { topic_spelling part_spelling };
+    ghost IsItem = { IsTopic IsPart };
+    ghost IsPutable = { λ _. Unit {0} };
+
+    fn put(&self, out: &mut Vec<u8>) -> Result<(), WireWriteFault> {
+        put::put_string(out, self.name)?;
+        put::put_array(out, self.parts)
+    }
+}
+
+impl<'a> Answered<'a, FetchEntry<'_>> for i32 {
+    ghost use Rattle.std.specs.Prelude.{ℤ};
+    ghost use Rattle.pc_model.specs.Messages.{FetchEntry as PlainFetchEntry, entry_spelling, IsEntry};
+    ghost use Rattle.pc_offset_wire.specs.Views.{fetch_entry_of};
+    ghost use Rattle.pc_offset_wire.specs.Replies.{entry_for, IsAnswerable};
+
+    ghost PlainAnswer = { PlainFetchEntry };
+    ghost plain_answer = { fetch_entry_of };
+    ghost Made = { ℤ × PlainFetchEntry };
+    ghost made = { entry_for };
+    ghost spelled = { entry_spelling };
+    ghost IsMade = { IsEntry };
+    ghost IsPutable = { IsAnswerable };
+
+    fn put_answer(self, answer: &FetchEntry<'_>, out: &mut Vec<u8>) -> Result<(), WireWriteFault> {
+        put::put_i32(out, self)?;
+        put::put_i64(out, answer.position)?;
+        put::put_nullable(out, answer.metadata)?;
+        put::put_i16(out, answer.code)?;
+        Ok(())
+    }
+}
+
+/// Puts the body of a fetch request.
+fn put_fetch_request(
+    out: &mut Vec<u8>,
+    correlation: i32,
+    client: Option<&str>,
+    group: &str,
+    topics: &[FetchTopic<'_>],
+) -> Result<(), WireWriteFault>
+    ensures { let message = fetch_message correlation (option_copied client.entry) group.now
+        topics.now in
+        Puts (fetch_request_body message) (IsFetchBody message) out.old.items out.new.items
+        result }
+{
+    put::put_header(out, OFFSET_FETCH, OFFSET_FETCH_VERSION, correlation, client)?;
+    put::put_string(out, group)?;
+    put::put_array(out, topics)
+}
+
+/// Puts the body of the reply to a fetch request.
+fn put_fetch_reply(
+    out: &mut Vec<u8>,
+    request: &FetchRequest<'_>,
+    entries: &[FetchEntry<'_>],
+) -> Result<(), WireWriteFault>
+    requires count { length entries.now ≡ item_count (fetch_request_of request.now).topics }
+    requires positions { All IsAnswerable entries.now }
+    ensures { let message = fetch_reply_to (fetch_request_of request.now)
+        (map fetch_entry_of entries.now) in
+        Puts (fetch_reply_body message) (IsFetchReplyBody message) out.old.items out.new.items
+        result }
+{
+    put::put_i32(out, request.correlation)?;
+    answer::put_topics(out, request.topics(), entries)
+}
+
+/// Writes a fetch request. A topic may have no parts, and stand more than once.
+pub fn write_fetch_request(
+    alloc: Global,
+    correlation: i32,
+    client: Option<&str>,
+    group: &str,
+    topics: &[FetchTopic<'_>],
+) -> Result<Vec<u8>, WireWriteFault>
+    ensures frame { IfOk result (λ frame. IsFetchRequest frame.items
+        (fetch_message correlation (option_copied client.entry) group.now topics.now)) }
+
+    // Only what no frame spells is too long.
+    ensures too_long { result ≡ Err TooLong → (frame : List ℕ) → IsFetchRequest frame
+        (fetch_message correlation (option_copied client.entry) group.now topics.now) → ⊥ }
+{
+    let mut body = Vec::new(alloc);
+    put_fetch_request(&mut body, correlation, client, group, topics)?;
+    put::frame_of(alloc, &body)
+}
+
+/// Writes the reply to a fetch request, with an entry for each of its parts in their order.
+pub fn write_fetch_reply(
+    alloc: Global,
+    request: &FetchRequest<'_>,
+    entries: &[FetchEntry<'_>],
+) -> Result<Vec<u8>, WireWriteFault>
+    requires count { length entries.now ≡ item_count (fetch_request_of request.now).topics }
+
+    // No position is below -1.
+    requires positions { All IsAnswerable entries.now }
+    ensures frame { IfOk result (λ frame. IsFetchReply frame.items
+        (fetch_reply_to (fetch_request_of request.now) (map fetch_entry_of entries.now))) }
+
+    // Only what no frame spells is too long.
+    ensures too_long { result ≡ Err TooLong → (frame : List ℕ) → IsFetchReply frame
+        (fetch_reply_to (fetch_request_of request.now) (map fetch_entry_of entries.now)) → ⊥ }
+{
+    let mut body = Vec::new(alloc);
+    put_fetch_reply(&mut body, request, entries)?;
+    put::frame_of(alloc, &body)
+}
