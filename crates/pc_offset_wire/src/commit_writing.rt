@@ -2,14 +2,15 @@
 
 ghost use Rattle.std.specs.Prelude.{◌≡◌, ℕ, List, All, length, IfOk, Err};
 ghost use Rattle.std.specs.Option.{option_copied};
-ghost use Rattle.pc_model.specs.Messages.{IsCommitRequest, IsCommitReply, commit_request_body, commit_reply_body};
+ghost use Rattle.pc_model.specs.Messages.{IsCommitRequest, IsCommitReply, IsCommitCode, IsArray, AreTopics, commit_request_body, commit_reply_body, commit_code_spelling, array_spelling, topics_spelling};
+ghost use Rattle.pc_model.specs.MessageReading.{commit_item_at, topic_at};
 ghost use Rattle.pc_offset_wire.specs.declared.write_fault.WireWriteFault.TheVariants.{TooLong};
+ghost use Rattle.pc_offset_wire.specs.Items.{items_left};
 ghost use Rattle.pc_offset_wire.specs.Views.{commit_request_of};
 ghost use Rattle.pc_offset_wire.specs.Writing.{Puts, AreStorable, commit_message, IsCommitBody, IsCommitReplyBody};
-ghost use Rattle.pc_offset_wire.specs.Replies.{item_count, commit_reply_to};
+ghost use Rattle.pc_offset_wire.specs.Replies.{item_count, answered_items, answered_topics, code_of, commit_reply_to};
 
-use crate::answer::{self, Answered};
-use crate::commit::{CommitItem, CommitRequest};
+use crate::commit::{CommitCode, CommitItem, CommitItems, CommitRequest, CommitTopics};
 use crate::put::{self, PutItem};
 use crate::write_fault::WireWriteFault;
 use pc_model::api::{OFFSET_COMMIT, OFFSET_COMMIT_VERSION};
@@ -56,22 +57,19 @@ impl PutItem for CommitTopic<'_> {
     }
 }
 
-impl<'a> Answered<'a, i16> for CommitItem<'a> {
-    ghost use Rattle.std.specs.Prelude.{ℤ};
+impl PutItem for CommitCode {
     ghost use Rattle.pc_model.specs.Messages.{CommitCode as PlainCommitCode, commit_code_spelling, IsCommitCode};
-    ghost use Rattle.pc_offset_wire.specs.Replies.{code_of};
+    ghost use Rattle.pc_offset_wire.specs.Views.{commit_code_of};
 
-    ghost PlainAnswer = { ℤ };
-    ghost plain_answer = { λ code. code };
-    ghost Made = { PlainCommitCode };
-    ghost made = { code_of };
+    ghost Plain = { PlainCommitCode };
+    ghost plain = { commit_code_of };
     ghost spelled = { commit_code_spelling };
-    ghost IsMade = { IsCommitCode };
+    ghost IsItem = { IsCommitCode };
     ghost IsPutable = { λ _. Unit {0} };
 
-    fn put_answer(self, answer: &i16, out: &mut Vec<u8>) -> Result<(), WireWriteFault> {
+    fn put(&self, out: &mut Vec<u8>) -> Result<(), WireWriteFault> {
         put::put_i32(out, self.part)?;
-        put::put_i16(out, *answer)?;
+        put::put_i16(out, self.code)?;
         Ok(())
     }
 }
@@ -102,6 +100,51 @@ fn put_commit_request(
     put::put_array(out, topics)
 }
 
+/// Puts an array of the parts that were asked, each with its code.
+fn put_codes(
+    out: &mut Vec<u8>,
+    items: CommitItems<'_>,
+    codes: &[i16],
+) -> Result<(), WireWriteFault>
+    requires { length codes.now ≡ length (items_left commit_item_at items.entry) }
+    ensures { let made = answered_items code_of (items_left commit_item_at items.entry) codes.now in
+        Puts (array_spelling commit_code_spelling made) (IsArray IsCommitCode made) out.old.items
+        out.new.items result }
+{
+    put::put_count(out, codes.len())?;
+    let mut items = items;
+    for code in codes {
+        if let Some(item) = items.next() {
+            let part = item.part;
+            CommitCode { part, code: *code }.put(out)?;
+        }
+    }
+    Ok(())
+}
+
+/// Puts an array of the topics that were asked, with a code for each of their items.
+fn put_code_topics(
+    out: &mut Vec<u8>,
+    topics: CommitTopics<'_>,
+    codes: &[i16],
+) -> Result<(), WireWriteFault>
+    requires { length codes.now ≡ item_count (items_left (topic_at commit_item_at) topics.entry) }
+    ensures { let made = answered_topics code_of (items_left (topic_at commit_item_at) topics.entry)
+        codes.now in
+        Puts (topics_spelling commit_code_spelling made) (AreTopics IsCommitCode made)
+        out.old.items out.new.items result }
+{
+    put::put_count(out, topics.len())?;
+    let mut codes = codes;
+    for (name, items) in topics {
+        let (first, others) = codes.split_at(items.len());
+        put::put_string(out, name)?;
+        put_codes(out, items, first)?;
+        codes = others;
+    }
+    Ok(())
+}
+
 /// Puts the body of the reply to a commit request.
 fn put_commit_reply(
     out: &mut Vec<u8>,
@@ -114,7 +157,7 @@ fn put_commit_reply(
         result }
 {
     put::put_i32(out, request.correlation)?;
-    answer::put_topics(out, request.topics(), codes)
+    put_code_topics(out, request.topics(), codes)
 }
 
 /// Writes a commit request. A topic may have no items, and stand more than once.

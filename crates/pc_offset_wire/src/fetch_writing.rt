@@ -2,14 +2,15 @@
 
 ghost use Rattle.std.specs.Prelude.{◌≡◌, ℕ, List, All, length, map, IfOk, Err};
 ghost use Rattle.std.specs.Option.{option_copied};
-ghost use Rattle.pc_model.specs.Messages.{IsFetchRequest, IsFetchReply, fetch_request_body, fetch_reply_body};
+ghost use Rattle.pc_model.specs.Messages.{IsFetchRequest, IsFetchReply, IsEntry, IsArray, AreTopics, fetch_request_body, fetch_reply_body, entry_spelling, array_spelling, topics_spelling};
+ghost use Rattle.pc_model.specs.MessageReading.{part_id_at, topic_at};
 ghost use Rattle.pc_offset_wire.specs.declared.write_fault.WireWriteFault.TheVariants.{TooLong};
+ghost use Rattle.pc_offset_wire.specs.Items.{items_left};
 ghost use Rattle.pc_offset_wire.specs.Views.{fetch_entry_of, fetch_request_of};
 ghost use Rattle.pc_offset_wire.specs.Writing.{Puts, fetch_message, IsFetchBody, IsFetchReplyBody};
-ghost use Rattle.pc_offset_wire.specs.Replies.{item_count, fetch_reply_to, IsAnswerable};
+ghost use Rattle.pc_offset_wire.specs.Replies.{item_count, answered_items, answered_topics, entry_for, fetch_reply_to, IsAnswerable};
 
-use crate::answer::{self, Answered};
-use crate::fetch::{FetchEntry, FetchRequest};
+use crate::fetch::{FetchEntry, FetchRequest, PartItems, PartTopics};
 use crate::put::{self, PutItem};
 use crate::write_fault::WireWriteFault;
 use pc_model::api::{OFFSET_FETCH, OFFSET_FETCH_VERSION};
@@ -55,25 +56,24 @@ impl PutItem for FetchTopic<'_> {
     }
 }
 
-impl<'a> Answered<'a, FetchEntry<'_>> for i32 {
+impl PutItem for (i32, FetchEntry<'_>) {
     ghost use Rattle.std.specs.Prelude.{ℤ};
     ghost use Rattle.pc_model.specs.Messages.{FetchEntry as PlainFetchEntry, entry_spelling, IsEntry};
-    ghost use Rattle.pc_offset_wire.specs.Views.{fetch_entry_of};
-    ghost use Rattle.pc_offset_wire.specs.Replies.{entry_for, IsAnswerable};
+    ghost use Rattle.pc_offset_wire.specs.Views.{part_entry_of};
+    ghost use Rattle.pc_offset_wire.specs.Replies.{IsAnswerable};
 
-    ghost PlainAnswer = { PlainFetchEntry };
-    ghost plain_answer = { fetch_entry_of };
-    ghost Made = { ℤ × PlainFetchEntry };
-    ghost made = { entry_for };
+    ghost Plain = { ℤ × PlainFetchEntry };
+    ghost plain = { part_entry_of };
     ghost spelled = { entry_spelling };
-    ghost IsMade = { IsEntry };
-    ghost IsPutable = { IsAnswerable };
+    ghost IsItem = { IsEntry };
+    ghost IsPutable = { λ item. IsAnswerable item.1 };
 
-    fn put_answer(self, answer: &FetchEntry<'_>, out: &mut Vec<u8>) -> Result<(), WireWriteFault> {
-        put::put_i32(out, self)?;
-        put::put_i64(out, answer.position)?;
-        put::put_nullable(out, answer.metadata)?;
-        put::put_i16(out, answer.code)?;
+    fn put(&self, out: &mut Vec<u8>) -> Result<(), WireWriteFault> {
+        let (part, entry) = self;
+        put::put_i32(out, *part)?;
+        put::put_i64(out, entry.position)?;
+        put::put_nullable(out, entry.metadata)?;
+        put::put_i16(out, entry.code)?;
         Ok(())
     }
 }
@@ -96,6 +96,53 @@ fn put_fetch_request(
     put::put_array(out, topics)
 }
 
+/// Puts an array of the parts that were asked, each with its entry.
+fn put_entries(
+    out: &mut Vec<u8>,
+    parts: PartItems<'_>,
+    entries: &[FetchEntry<'_>],
+) -> Result<(), WireWriteFault>
+    requires count { length entries.now ≡ length (items_left part_id_at parts.entry) }
+    requires positions { All IsAnswerable entries.now }
+    ensures { let made = answered_items entry_for (items_left part_id_at parts.entry)
+        (map fetch_entry_of entries.now) in
+        Puts (array_spelling entry_spelling made) (IsArray IsEntry made) out.old.items
+        out.new.items result }
+{
+    put::put_count(out, entries.len())?;
+    let mut parts = parts;
+    for entry in entries {
+        if let Some(part) = parts.next() {
+            (part, *entry).put(out)?;
+        }
+    }
+    Ok(())
+}
+
+/// Puts an array of the topics that were asked, with an entry for each of their parts.
+fn put_entry_topics(
+    out: &mut Vec<u8>,
+    topics: PartTopics<'_>,
+    entries: &[FetchEntry<'_>],
+) -> Result<(), WireWriteFault>
+    requires count { length entries.now ≡ item_count (items_left (topic_at part_id_at) topics.entry) }
+    requires positions { All IsAnswerable entries.now }
+    ensures { let made = answered_topics entry_for (items_left (topic_at part_id_at) topics.entry)
+        (map fetch_entry_of entries.now) in
+        Puts (topics_spelling entry_spelling made) (AreTopics IsEntry made) out.old.items
+        out.new.items result }
+{
+    put::put_count(out, topics.len())?;
+    let mut entries = entries;
+    for (name, parts) in topics {
+        let (first, others) = entries.split_at(parts.len());
+        put::put_string(out, name)?;
+        put_entries(out, parts, first)?;
+        entries = others;
+    }
+    Ok(())
+}
+
 /// Puts the body of the reply to a fetch request.
 fn put_fetch_reply(
     out: &mut Vec<u8>,
@@ -110,7 +157,7 @@ fn put_fetch_reply(
         result }
 {
     put::put_i32(out, request.correlation)?;
-    answer::put_topics(out, request.topics(), entries)
+    put_entry_topics(out, request.topics(), entries)
 }
 
 /// Writes a fetch request. A topic may have no parts, and stand more than once.

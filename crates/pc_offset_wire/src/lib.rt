@@ -1,7 +1,6 @@
 //! The frames of OffsetCommit and OffsetFetch, read in place and written.
 #![tactic(auto)]
 
-mod answer;
 mod commit;
 mod commit_writing;
 mod fetch;
