@@ -3,7 +3,7 @@ use Rattle.std.proofs.Common.{◌≡◌, ◌≢◌, ℕ, zero, suc, ◌-◌, ◌
 use Rattle.pc_model.specs.declared.wire_fault.WireFault.{WireFault}
 use Rattle.std.specs.Int.{w32}
 use Rattle.pc_model.specs.MessageReading.{◌>>=◌, size_at, items_at, array_at}
-use Rattle.pc_offset_wire.specs.Items.{after_items, front_items}
+use Rattle.pc_offset_wire.specs.Items.{after_items, and_on, front_items}
 
 -- the value of a step that did not fail
 pub bind_ok : {A B : Type 0} (r : Result A WireFault) (f : A → Result B WireFault) (y : B) → (r >>= f) ≡ Ok y → (x : A) × (r ≡ Ok x) × (f x ≡ Ok y)
@@ -96,6 +96,16 @@ module _ {A : Type 0} (item_at : List ℕ → Result (A × List ℕ) WireFault) 
   front-step (suc n) bytes rest x some h =
       let one : suc n - 1 ≡ n = omega arith in
       rw (h, one) refl
+
+  fewer : (n : ℕ) → ((bytes : List ℕ) → length (front_items item_at n bytes) ≤ n) → (first : Result (A × List ℕ) WireFault) → length (and_on first (front_items item_at n)) ≤ suc n
+  fewer n others (Ok x) = omega (arith, others x.1)
+  fewer n others (Err fault) = omega arith
+
+  -- they are so many at most
+  pub length-front_items : (count : ℕ) (bytes : List ℕ) → length (front_items item_at count bytes) ≤ count
+  unfolding front_items
+  length-front_items zero bytes = omega arith
+  length-front_items (suc n) bytes = fewer n (length-front_items n) (item_at bytes)
 
   -- ---- a count, and so many items
 

@@ -106,7 +106,7 @@ fn put_codes(
     items: CommitItems<'_>,
     codes: &[i16],
 ) -> Result<(), WireWriteFault>
-    requires { length codes.now ≡ length (items_left commit_item_at items.entry) }
+    requires { length codes.now ≡ length (items_left commit_item_at items) }
     ensures { let made = answered_items code_of (items_left commit_item_at items.entry) codes.now in
         Puts (array_spelling commit_code_spelling made) (IsArray IsCommitCode made) out.old.items
         out.new.items result }
@@ -128,7 +128,7 @@ fn put_code_topics(
     topics: CommitTopics<'_>,
     codes: &[i16],
 ) -> Result<(), WireWriteFault>
-    requires { length codes.now ≡ item_count (items_left (topic_at commit_item_at) topics.entry) }
+    requires { length codes.now ≡ item_count (items_left (topic_at commit_item_at) topics) }
     ensures { let made = answered_topics code_of (items_left (topic_at commit_item_at) topics.entry)
         codes.now in
         Puts (topics_spelling commit_code_spelling made) (AreTopics IsCommitCode made)

@@ -102,7 +102,7 @@ fn put_entries(
     parts: PartItems<'_>,
     entries: &[FetchEntry<'_>],
 ) -> Result<(), WireWriteFault>
-    requires count { length entries.now ≡ length (items_left part_id_at parts.entry) }
+    requires count { length entries.now ≡ length (items_left part_id_at parts) }
     requires positions { All IsAnswerable entries.now }
     ensures { let made = answered_items entry_for (items_left part_id_at parts.entry)
         (map fetch_entry_of entries.now) in
@@ -125,7 +125,7 @@ fn put_entry_topics(
     topics: PartTopics<'_>,
     entries: &[FetchEntry<'_>],
 ) -> Result<(), WireWriteFault>
-    requires count { length entries.now ≡ item_count (items_left (topic_at part_id_at) topics.entry) }
+    requires count { length entries.now ≡ item_count (items_left (topic_at part_id_at) topics) }
     requires positions { All IsAnswerable entries.now }
     ensures { let made = answered_topics entry_for (items_left (topic_at part_id_at) topics.entry)
         (map fetch_entry_of entries.now) in

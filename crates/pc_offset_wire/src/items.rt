@@ -75,8 +75,8 @@ pub(crate) fn array<'a, T: WireItem<'a>>(bytes: &'a [u8]) -> Result<(Items<'a, T
 
 impl<'a, T: WireItem<'a>> Items<'a, T> {
     /// How many items are left.
-    pub(crate) fn len(&self) -> usize
-        ensures { result ≡ length (items_left T.at self.now) }
+    pub(crate) fn len(self) -> usize
+        ensures { result ≡ length (items_left T.at self.entry) }
     {
         self.count()
     }
