@@ -20,3 +20,4 @@ pub mod RunLemmas
 pub mod RunsAt
 pub mod Tables
 pub mod BitAtLemmas
+pub mod BrokerLaws

@@ -27,31 +27,45 @@ pub record Membership : Type 0 where
   pub generation : ℤ
   pub members : List (List ℕ)
 
--- The broker of one topic with so many parts: the commits that it accepted and the memberships that
--- were formed, each with the last first.
+-- the broker of one topic with so many parts: for each group and part the commit that it accepted
+-- last, and for each group that has one its membership
 pub record Broker : Type 0 where
   pub topic : List ℕ
   pub parts : ℕ
   pub commits : List Stored
   pub memberships : List Membership
 
+-- whether a commit is that of a group and a part
+abbrev pub is_for : List ℕ → ℕ → Stored → Bool
+is_for group part s = bytes_eq s.group group && s.part == part
+
+-- the commits with this one, in the place of that of its group and part if there is one
+abbrev pub put_stored : Stored → List Stored → List Stored
+put_stored s [] = s ∷ []
+put_stored s (t ∷ ts) = if is_for s.group s.part t then s ∷ ts else t ∷ put_stored s ts
+
+-- the memberships with this one, in the place of that of its group if there is one
+abbrev pub put_membership : Membership → List Membership → List Membership
+put_membership m [] = m ∷ []
+put_membership m (n ∷ ns) = if bytes_eq n.group m.group then m ∷ ns else n ∷ put_membership m ns
+
 -- what is stored for a group and a part, if anything is
 abbrev pub stored_for : Broker → List ℕ → ℕ → Option Commit
 stored_for b group part = option_map (λ s. s.commit)
-    (find (λ s. bytes_eq s.group group && s.part == part) b.commits)
+    (find (is_for group part) b.commits)
 
 -- the membership of a group, if it has a generation
 abbrev pub membership_of : Broker → List ℕ → Option Membership
 membership_of b group = find (λ m. bytes_eq m.group group) b.memberships
 
--- the broker with one more commit
+-- the broker with this commit
 abbrev pub with_stored : Broker → List ℕ → ℕ → Commit → Broker
 with_stored b group part commit = record b
-    { commits = record { group = group; part = part; commit = commit } ∷ b.commits }
+    { commits = put_stored (record { group = group; part = part; commit = commit }) b.commits }
 
 -- the broker where a group has this membership
 abbrev pub with_membership : Broker → Membership → Broker
-with_membership b m = record b { memberships = m ∷ b.memberships }
+with_membership b m = record b { memberships = put_membership m b.memberships }
 
 -- ---- the codes
 

@@ -2,3 +2,4 @@ pub mod World
 pub mod MemoryFiles
 pub mod MemorySink
 pub mod MemoryKeeper
+pub mod FailingLink

@@ -3,9 +3,11 @@
 #![tactic(auto)]
 
 mod disk_files;
+mod failing_link;
 mod faults;
 mod files;
 mod keeper;
+mod link;
 mod memory_files;
 mod memory_keeper;
 mod memory_sink;
@@ -13,8 +15,10 @@ mod sink;
 mod std_sink;
 
 pub use disk_files::DiskFiles;
+pub use failing_link::FailingLink;
 pub use files::{FILE_BYTES_MAX, Files, FilesFault};
 pub use keeper::{Keeper, KeeperFault};
+pub use link::{FRAME_BYTES_MAX, Link, LinkFault};
 pub use memory_files::MemoryFiles;
 pub use memory_keeper::MemoryKeeper;
 pub use memory_sink::MemorySink;
