@@ -1,3 +1,4 @@
 pub mod FieldLemmas
 pub mod ItemLemmas
 pub mod WritingLemmas
+pub mod ReplyLemmas

@@ -86,6 +86,10 @@ array-uncounted spelled IsItem all count old new last fault e h = Puts-fails fau
 pub topic-put : {A : Type 0} (spelled : A → List ℕ) (IsItem : A → Type 0) (name : List ℕ) (items : List A) (old mid new : List ℕ) → (mid ≡ old ++ string_spelling name) × IsString name → (new ≡ mid ++ array_spelling spelled items) × IsArray IsItem items → (new ≡ old ++ topic_spelling spelled (record { name = name; items = items })) × IsTopic IsItem (record { name = name; items = items })
 topic-put spelled IsItem name items old mid new a b = (b.0 ∙ ap (λ (x : List ℕ). x ++ array_spelling spelled items) a.0 ∙ append_assoc old (string_spelling name) (array_spelling spelled items), record { name = a.1; items = b.1 })
 
+-- the items of a topic were not put
+pub topic-fails : {A : Type 0} (spelled : A → List ℕ) (IsItem : A → Type 0) (name : List ℕ) (items : List A) (now mid new last : List ℕ) (fault : WireWriteFault) → Puts (array_spelling spelled items) (IsArray IsItem items) mid new (Err fault) → Puts (topic_spelling spelled (record { name = name; items = items })) (IsTopic IsItem (record { name = name; items = items })) now last (Err fault)
+topic-fails spelled IsItem name items now mid new last fault h = Puts-fails fault (array_spelling spelled items) (topic_spelling spelled (record { name = name; items = items })) now mid new last (IsArray IsItem items) (IsTopic IsItem (record { name = name; items = items })) (λ w. w.items) h
+
 -- ---- fields, one behind the other
 
 pub string-put : (text old mid new : List ℕ) → IsString text → mid ≡ old ++ int_spelling w16 (pos (length text)) → new ≡ mid ++ text → (new ≡ old ++ string_spelling text) × IsString text

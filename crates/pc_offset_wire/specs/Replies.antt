@@ -1,5 +1,5 @@
 -- The replies to a request: its topics and parts, with what is answered of each in their order.
-use Rattle.std.specs.Prelude.{ℕ, ◌+◌, ℤ, ◌≤ℤ◌, List, [], ◌∷◌, map, length, drop}
+use Rattle.std.specs.Prelude.{ℕ, ◌+◌, ℤ, ◌≤ℤ◌, List, [], ◌∷◌, map, length, take, drop}
 use Rattle.std.proofs.Common.{negsuc}
 use Rattle.std.specs.List.{zip}
 use Rattle.pc_model.specs.Messages as messages
@@ -20,7 +20,7 @@ abbrev pub answered_topics : {A B C : Type 0} → (A → B → C) → List (Topi
     → List (Topic C)
 answered_topics made [] answers = []
 answered_topics made (topic ∷ topics) answers = record
-    { name = topic.name; items = answered_items made topic.items answers }
+    { name = topic.name; items = answered_items made topic.items (take (length topic.items) answers) }
     ∷ answered_topics made topics (drop (length topic.items) answers)
 
 abbrev pub code_of : messages.CommitItem → ℤ → messages.CommitCode

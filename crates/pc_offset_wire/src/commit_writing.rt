@@ -3,14 +3,14 @@
 ghost use Rattle.std.specs.Prelude.{◌≡◌, ℕ, List, All, length, IfOk, Err};
 ghost use Rattle.std.specs.Option.{option_copied};
 ghost use Rattle.pc_model.specs.Messages.{IsCommitRequest, IsCommitReply, IsCommitCode, IsArray, AreTopics, commit_request_body, commit_reply_body, commit_code_spelling, array_spelling, topics_spelling};
-ghost use Rattle.pc_model.specs.MessageReading.{commit_item_at, topic_at};
+ghost use Rattle.pc_model.specs.MessageReading.{commit_item_at};
 ghost use Rattle.pc_offset_wire.specs.declared.write_fault.WireWriteFault.TheVariants.{TooLong};
 ghost use Rattle.pc_offset_wire.specs.Items.{items_left};
 ghost use Rattle.pc_offset_wire.specs.Views.{commit_request_of};
 ghost use Rattle.pc_offset_wire.specs.Writing.{Puts, AreStorable, commit_message, IsCommitBody, IsCommitReplyBody};
 ghost use Rattle.pc_offset_wire.specs.Replies.{item_count, answered_items, answered_topics, code_of, commit_reply_to};
 
-use crate::commit::{CommitCode, CommitItem, CommitItems, CommitRequest, CommitTopics};
+use crate::commit::{CommitCode, CommitItem, CommitItems, CommitRequest};
 use crate::put::{self, PutItem};
 use crate::write_fault::WireWriteFault;
 use pc_model::api::{OFFSET_COMMIT, OFFSET_COMMIT_VERSION};
@@ -125,18 +125,17 @@ fn put_codes(
 /// Puts an array of the topics that were asked, with a code for each of their items.
 fn put_code_topics(
     out: &mut Vec<u8>,
-    topics: CommitTopics<'_>,
+    request: &CommitRequest<'_>,
     codes: &[i16],
 ) -> Result<(), WireWriteFault>
-    requires { length codes.now ≡ item_count (items_left (topic_at commit_item_at) topics) }
-    ensures { let made = answered_topics code_of (items_left (topic_at commit_item_at) topics.entry)
-        codes.now in
+    requires { length codes.now ≡ item_count (commit_request_of request.now).topics }
+    ensures { let made = answered_topics code_of (commit_request_of request.now).topics codes.now in
         Puts (topics_spelling commit_code_spelling made) (AreTopics IsCommitCode made)
         out.old.items out.new.items result }
 {
-    put::put_count(out, topics.len())?;
+    put::put_count(out, request.topics().len())?;
     let mut codes = codes;
-    for (name, items) in topics {
+    for (name, items) in request.topics() {
         let (first, others) = codes.split_at(items.len());
         put::put_string(out, name)?;
         put_codes(out, items, first)?;
@@ -157,7 +156,7 @@ fn put_commit_reply(
         result }
 {
     put::put_i32(out, request.correlation)?;
-    put_code_topics(out, request.topics(), codes)
+    put_code_topics(out, request, codes)
 }
 
 /// Writes a commit request. A topic may have no items, and stand more than once.

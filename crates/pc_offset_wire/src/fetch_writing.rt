@@ -3,14 +3,14 @@
 ghost use Rattle.std.specs.Prelude.{◌≡◌, ℕ, List, All, length, map, IfOk, Err};
 ghost use Rattle.std.specs.Option.{option_copied};
 ghost use Rattle.pc_model.specs.Messages.{IsFetchRequest, IsFetchReply, IsEntry, IsArray, AreTopics, fetch_request_body, fetch_reply_body, entry_spelling, array_spelling, topics_spelling};
-ghost use Rattle.pc_model.specs.MessageReading.{part_id_at, topic_at};
+ghost use Rattle.pc_model.specs.MessageReading.{part_id_at};
 ghost use Rattle.pc_offset_wire.specs.declared.write_fault.WireWriteFault.TheVariants.{TooLong};
 ghost use Rattle.pc_offset_wire.specs.Items.{items_left};
 ghost use Rattle.pc_offset_wire.specs.Views.{fetch_entry_of, fetch_request_of};
 ghost use Rattle.pc_offset_wire.specs.Writing.{Puts, fetch_message, IsFetchBody, IsFetchReplyBody};
 ghost use Rattle.pc_offset_wire.specs.Replies.{item_count, answered_items, answered_topics, entry_for, fetch_reply_to, IsAnswerable};
 
-use crate::fetch::{FetchEntry, FetchRequest, PartItems, PartTopics};
+use crate::fetch::{FetchEntry, FetchRequest, PartItems};
 use crate::put::{self, PutItem};
 use crate::write_fault::WireWriteFault;
 use pc_model::api::{OFFSET_FETCH, OFFSET_FETCH_VERSION};
@@ -122,19 +122,19 @@ fn put_entries(
 /// Puts an array of the topics that were asked, with an entry for each of their parts.
 fn put_entry_topics(
     out: &mut Vec<u8>,
-    topics: PartTopics<'_>,
+    request: &FetchRequest<'_>,
     entries: &[FetchEntry<'_>],
 ) -> Result<(), WireWriteFault>
-    requires count { length entries.now ≡ item_count (items_left (topic_at part_id_at) topics) }
+    requires count { length entries.now ≡ item_count (fetch_request_of request.now).topics }
     requires positions { All IsAnswerable entries.now }
-    ensures { let made = answered_topics entry_for (items_left (topic_at part_id_at) topics.entry)
+    ensures { let made = answered_topics entry_for (fetch_request_of request.now).topics
         (map fetch_entry_of entries.now) in
         Puts (topics_spelling entry_spelling made) (AreTopics IsEntry made) out.old.items
         out.new.items result }
 {
-    put::put_count(out, topics.len())?;
+    put::put_count(out, request.topics().len())?;
     let mut entries = entries;
-    for (name, parts) in topics {
+    for (name, parts) in request.topics() {
         let (first, others) = entries.split_at(parts.len());
         put::put_string(out, name)?;
         put_entries(out, parts, first)?;
@@ -157,7 +157,7 @@ fn put_fetch_reply(
         result }
 {
     put::put_i32(out, request.correlation)?;
-    put_entry_topics(out, request.topics(), entries)
+    put_entry_topics(out, request, entries)
 }
 
 /// Writes a fetch request. A topic may have no parts, and stand more than once.

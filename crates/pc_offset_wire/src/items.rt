@@ -1,6 +1,6 @@
 //! Arrays, read in place: clauses see of one the list of its items that are left.
 
-ghost use Rattle.std.specs.Prelude.{◌≡◌, length, ℕ, List, Result};
+ghost use Rattle.std.specs.Prelude.{◌≡◌, ◌<◌, ◌^◌, length, ℕ, List, Result};
 ghost use Rattle.pc_model.specs.declared.wire_fault.WireFault.{WireFault};
 ghost use Rattle.pc_model.specs.MessageReading.{array_at};
 ghost use Rattle.pc_offset_wire.specs.Reading.{Gives};
@@ -33,9 +33,10 @@ pub struct Items<'a, T> {
 }
 
 impl<'a, T> Items<'a, T> {
-    /// The same items.
+    /// At most so many items, at the front of the bytes.
     pub(crate) fn of(bytes: &'a [u8], count: u32) -> Items<'a, T>
-        ensures { result ≡ record { bytes = bytes.entry; count = count; of = record { } } }
+        ensures few { result.count < 2 ^ 32 }
+        ensures fields { result ≡ record { bytes = bytes.entry; count = count; of = record { } } }
     {
         Items {
             bytes,
@@ -75,10 +76,11 @@ pub(crate) fn array<'a, T: WireItem<'a>>(bytes: &'a [u8]) -> Result<(Items<'a, T
 
 impl<'a, T: WireItem<'a>> Items<'a, T> {
     /// How many items are left.
-    pub(crate) fn len(self) -> usize
-        ensures { result ≡ length (items_left T.at self.entry) }
+    pub(crate) fn len(&self) -> usize
+        ensures { result ≡ length (items_left T.at self.now) }
     {
-        self.count()
+        let items: Items<'a, T> = Items::of(self.bytes, self.count);
+        items.count()
     }
 }
 
