@@ -42,14 +42,8 @@ module _ {A B C : Type 0} (made : A → B → C) where
       ∙ ap (λ (l : List B). answered_topic topic first ∷ answered_topics made others l) (ap (λ (k : ℕ). drop k ys) (sym is) ∙ sym back)
 
   -- the answers that are left are as many as the items that are left
-  pub counts-topic : (topics others : List (Topic A)) (topic : Topic A) (ys rest : List B) (n : ℕ) → topics ≡ topic ∷ others → n ≡ length topic.items → rest ≡ drop n ys → length ys ≡ item_count topics → length rest ≡ item_count others
-  counts-topic topics others topic ys rest n e is back count =
-      let all : item_count topics ≡ length topic.items + item_count others = ap item_count e in
-      ap length back ∙ omega (arith, length-drop n ys)
-
-  -- there are answers to the items of the next topic
-  pub counts-first : (topics others : List (Topic A)) (topic : Topic A) (ys : List B) → topics ≡ topic ∷ others → length ys ≡ item_count topics → length topic.items ≤ length ys
-  counts-first topics others topic ys e count =
+  pub counts-topic : (topics others : List (Topic A)) (topic : Topic A) (count done n : ℕ) → topics ≡ topic ∷ others → n ≡ length topic.items → count ≡ done + item_count topics → count ≡ done + n + item_count others
+  counts-topic topics others topic count done n e is h =
       let all : item_count topics ≡ length topic.items + item_count others = ap item_count e in omega arith
 
 -- ---- a topic, its name put and then the answers to its items

@@ -5,6 +5,7 @@ use Rattle.std.specs.List.{zip}
 use Rattle.pc_model.specs.Messages as messages
 use Rattle.pc_model.specs.Messages.{Topic}
 use Rattle.pc_offset_wire.specs.declared.fetch.FetchEntry.{FetchEntry}
+use Rattle.pc_offset_wire.specs.Views.{fetch_entry_of}
 
 -- how many items the topics have
 abbrev pub item_count : {A : Type 0} → List (Topic A) → ℕ
@@ -31,11 +32,11 @@ abbrev pub commit_reply_to : messages.CommitRequest → List ℤ → messages.Co
 commit_reply_to r codes = record
     { correlation = r.correlation; topics = answered_topics code_of r.topics codes }
 
-abbrev pub entry_for : ℤ → messages.FetchEntry → ℤ × messages.FetchEntry
-entry_for part entry = (part, entry)
+abbrev pub entry_for : ℤ → FetchEntry → ℤ × messages.FetchEntry
+entry_for part entry = (part, fetch_entry_of entry)
 
 -- the reply that has an entry for each part
-abbrev pub fetch_reply_to : messages.FetchRequest → List messages.FetchEntry → messages.FetchReply
+abbrev pub fetch_reply_to : messages.FetchRequest → List FetchEntry → messages.FetchReply
 fetch_reply_to r entries = record
     { correlation = r.correlation; topics = answered_topics entry_for r.topics entries }
 

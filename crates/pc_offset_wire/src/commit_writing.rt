@@ -134,12 +134,12 @@ fn put_code_topics(
         out.old.items out.new.items result }
 {
     put::put_count(out, request.topics().len())?;
-    let mut codes = codes;
+    let mut done = 0;
     for (name, items) in request.topics() {
-        let (first, others) = codes.split_at(items.len());
+        let end = done + items.len();
         put::put_string(out, name)?;
-        put_codes(out, items, first)?;
-        codes = others;
+        put_codes(out, items, &codes[done..end])?;
+        done = end;
     }
     Ok(())
 }

@@ -1,12 +1,12 @@
 //! OffsetFetch: its request and its reply, written.
 
-ghost use Rattle.std.specs.Prelude.{◌≡◌, ℕ, List, All, length, map, IfOk, Err};
+ghost use Rattle.std.specs.Prelude.{◌≡◌, ℕ, List, All, length, IfOk, Err};
 ghost use Rattle.std.specs.Option.{option_copied};
 ghost use Rattle.pc_model.specs.Messages.{IsFetchRequest, IsFetchReply, IsEntry, IsArray, AreTopics, fetch_request_body, fetch_reply_body, entry_spelling, array_spelling, topics_spelling};
 ghost use Rattle.pc_model.specs.MessageReading.{part_id_at};
 ghost use Rattle.pc_offset_wire.specs.declared.write_fault.WireWriteFault.TheVariants.{TooLong};
 ghost use Rattle.pc_offset_wire.specs.Items.{items_left};
-ghost use Rattle.pc_offset_wire.specs.Views.{fetch_entry_of, fetch_request_of};
+ghost use Rattle.pc_offset_wire.specs.Views.{fetch_request_of};
 ghost use Rattle.pc_offset_wire.specs.Writing.{Puts, fetch_message, IsFetchBody, IsFetchReplyBody};
 ghost use Rattle.pc_offset_wire.specs.Replies.{item_count, answered_items, answered_topics, entry_for, fetch_reply_to, IsAnswerable};
 
@@ -105,7 +105,7 @@ fn put_entries(
     requires count { length entries.now ≡ length (items_left part_id_at parts) }
     requires positions { All IsAnswerable entries.now }
     ensures { let made = answered_items entry_for (items_left part_id_at parts.entry)
-        (map fetch_entry_of entries.now) in
+        entries.now in
         Puts (array_spelling entry_spelling made) (IsArray IsEntry made) out.old.items
         out.new.items result }
 {
@@ -128,17 +128,17 @@ fn put_entry_topics(
     requires count { length entries.now ≡ item_count (fetch_request_of request.now).topics }
     requires positions { All IsAnswerable entries.now }
     ensures { let made = answered_topics entry_for (fetch_request_of request.now).topics
-        (map fetch_entry_of entries.now) in
+        entries.now in
         Puts (topics_spelling entry_spelling made) (AreTopics IsEntry made) out.old.items
         out.new.items result }
 {
     put::put_count(out, request.topics().len())?;
-    let mut entries = entries;
+    let mut done = 0;
     for (name, parts) in request.topics() {
-        let (first, others) = entries.split_at(parts.len());
+        let end = done + parts.len();
         put::put_string(out, name)?;
-        put_entries(out, parts, first)?;
-        entries = others;
+        put_entries(out, parts, &entries[done..end])?;
+        done = end;
     }
     Ok(())
 }
@@ -152,7 +152,7 @@ fn put_fetch_reply(
     requires count { length entries.now ≡ item_count (fetch_request_of request.now).topics }
     requires positions { All IsAnswerable entries.now }
     ensures { let message = fetch_reply_to (fetch_request_of request.now)
-        (map fetch_entry_of entries.now) in
+        entries.now in
         Puts (fetch_reply_body message) (IsFetchReplyBody message) out.old.items out.new.items
         result }
 {
@@ -191,11 +191,11 @@ pub fn write_fetch_reply(
     // No position is below -1.
     requires positions { All IsAnswerable entries.now }
     ensures frame { IfOk result (λ frame. IsFetchReply frame.items
-        (fetch_reply_to (fetch_request_of request.now) (map fetch_entry_of entries.now))) }
+        (fetch_reply_to (fetch_request_of request.now) entries.now)) }
 
     // Only what no frame spells is too long.
     ensures too_long { result ≡ Err TooLong → (frame : List ℕ) → IsFetchReply frame
-        (fetch_reply_to (fetch_request_of request.now) (map fetch_entry_of entries.now)) → ⊥ }
+        (fetch_reply_to (fetch_request_of request.now) entries.now) → ⊥ }
 {
     let mut body = Vec::new(alloc);
     put_fetch_reply(&mut body, request, entries)?;

@@ -1,10 +1,10 @@
-use Rattle.std.proofs.Common.{◌≡◌, ◌∙◌, ap, length}
+use Rattle.std.proofs.Common.{◌≡◌, ◌∙◌, ◌+◌, ◌≤◌, ℕ, List, ap, arith, length, take, drop}
 use Rattle.std.proofs.lemmas.Result.{err_from_is_err_and}
-use Rattle.pc_model.specs.Messages.{commit_code_spelling, topic_spelling, IsCommitCode, IsTopic}
+use Rattle.pc_model.specs.Messages.{Topic, CommitItem, commit_code_spelling, topic_spelling, IsCommitCode, IsTopic}
 use Rattle.pc_model.specs.MessageReading.{commit_item_at, topic_at}
 use Rattle.pc_offset_wire.specs.Items.{items_left}
 use Rattle.pc_offset_wire.specs.Views.{commit_request_of}
-use Rattle.pc_offset_wire.specs.Replies.{answered_topics, code_of}
+use Rattle.pc_offset_wire.specs.Replies.{item_count, answered_topics, code_of}
 use Rattle.pc_offset_wire.proofs.ReplyLemmas.{answered-no_topics, length-answered_topics, counts-topic, reply-one, reply-fails}
 use Rattle.pc_offset_wire.proofs.WritingLemmas.{Leaves-none, array-done, array-fails, array-uncounted}
 use Rattle.pc_offset_wire.proofs.commit_writing.put_code_topics.Goals as goal
@@ -18,31 +18,10 @@ returns-in_err-put_count c =
     let now = c.put_count.new.out.items in
     rw (p.1, p.2) (array-uncounted (topic_spelling commit_code_spelling) (IsTopic IsCommitCode) made c.len.result c.args.out.now.items now now _ same c.in_err-put_count.ensures)
 
-pub returns-in_err-put_codes : goal.returns-in_err-put_codes
-returns-in_err-put_codes c =
-    let p = err_from_is_err_and c.from_residual-in_err-put_codes.result c.from_residual-in_err-put_codes.ensures.1 in
-    let topics = (commit_request_of c.args.request.now).topics in
-    let made = answered_topics code_of topics c.args.codes.now in
-    let same = c.len.ensures ∙ ap length c.topics.ensures ∙ length-answered_topics code_of topics c.args.codes.now in
-    let others = items_left (topic_at commit_item_at) c.next.new.self in
-    let topic = record { name = c.in-Some.name.now; items = items_left commit_item_at c.in-Some.items } in
-    let now = c.put_codes.new.out.items in
-    let fails = reply-fails code_of commit_code_spelling IsCommitCode made c.put_count.new.out.items c.loop-name.out.items c.put_string.new.out.items _ others topic c.loop-name.codes.now _ _ _ c.in-Some.ensures.steps c.len-in-loop-name.ensures c.split_at.ensures.front c.split_at.ensures.back now now _ c.in_err-put_codes.ensures c.loop-name.invariant.left in
-    rw (p.1, p.2) (array-fails (topic_spelling commit_code_spelling) (IsTopic IsCommitCode) made c.len.result c.args.out.now.items c.put_count.new.out.items c.in_ok-put_count.ensures same _ now now fails)
-
-pub loop-name-preserved : goal.loop-name-preserved
-loop-name-preserved c =
-    let others = items_left (topic_at commit_item_at) c.next.new.self in
-    let topic = record { name = c.in-Some.name.now; items = items_left commit_item_at c.in-Some.items } in
-    record {
-      left = reply-one code_of commit_code_spelling IsCommitCode _ _ _ _ _ others topic c.loop-name.codes.now _ _ _ c.in-Some.ensures.steps c.len-in-loop-name.ensures c.split_at.ensures.front c.split_at.ensures.back _ c.in_ok-put_string.ensures c.in_ok-put_codes.ensures c.loop-name.invariant.left;
-      same = counts-topic code_of _ others topic _ _ _ c.in-Some.ensures.steps c.len-in-loop-name.ensures c.split_at.ensures.back c.loop-name.invariant.same;
-    }
-
 pub returns : goal.returns
 returns c =
     let topics = (commit_request_of c.args.request.now).topics in
     let made = answered_topics code_of topics c.args.codes.now in
     let same = c.len.ensures ∙ ap length c.topics.ensures ∙ length-answered_topics code_of topics c.args.codes.now in
-    let none = answered-no_topics code_of _ c.loop-name.codes.now c.in-None.ensures.steps.0 in
+    let none = answered-no_topics code_of _ (drop c.loop-name.done c.args.codes.now) c.in-None.ensures.steps.0 in
     array-done (topic_spelling commit_code_spelling) (IsTopic IsCommitCode) made c.len.result _ _ c.in_ok-put_count.ensures same _ (Leaves-none _ _ _ _ _ _ none c.loop-name.invariant.left)

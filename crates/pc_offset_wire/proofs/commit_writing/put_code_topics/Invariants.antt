@@ -9,6 +9,6 @@ use Rattle.pc_offset_wire.proofs.commit_writing.put_code_topics.Given as goal
 
 abbrev pub invariant-loop-name : goal.invariant-loop-name
 invariant-loop-name l = record {
-  left : Leaves (topic_spelling commit_code_spelling) (IsTopic IsCommitCode) (answered_topics code_of (commit_request_of l.request).topics l.initial.codes) l.initial.out.items l.out.items (answered_topics code_of (items_left (topic_at commit_item_at) l.name-iterator) l.codes);
-  same : length l.codes ≡ item_count (items_left (topic_at commit_item_at) l.name-iterator);
+  left : Leaves (topic_spelling commit_code_spelling) (IsTopic IsCommitCode) (answered_topics code_of (commit_request_of l.request).topics l.codes) l.initial.out.items l.out.items (answered_topics code_of (items_left (topic_at commit_item_at) l.name-iterator) (drop l.done l.codes));
+  same : length l.codes ≡ l.done + item_count (items_left (topic_at commit_item_at) l.name-iterator);
 }
