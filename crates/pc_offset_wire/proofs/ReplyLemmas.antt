@@ -1,7 +1,7 @@
 -- The topics of a reply, one after the other.
-use Rattle.std.proofs.Common.{◌≡◌, ℕ, ◌+◌, ◌<◌, ◌≤◌, List, [], ◌∷◌, ◌++◌, length, map, take, drop, Result, Ok, Err, refl, sym, ap, subst, ◌∙◌, arith}
+use Rattle.std.proofs.Common.{◌≡◌, ℕ, ◌+◌, ◌<◌, ◌≤◌, List, [], ◌∷◌, ◌++◌, length, map, get_or, take, drop, Result, Ok, Err, refl, sym, ap, subst, ◌∙◌, arith}
 use Rattle.std.specs.List.{zip, AllByRecursion, flat_map}
-use Rattle.std.proofs.lemmas.List.{length-map, nil_from_length, length-drop}
+use Rattle.std.proofs.lemmas.List.{length-map, nil_from_length, drop_more}
 use Rattle.std.proofs.lemmas.Slice.Zip.{length-zip}
 use Rattle.pc_model.specs.Messages.{Topic, IsString, IsArray, IsTopic, string_spelling, array_spelling, topic_spelling}
 use Rattle.pc_offset_wire.specs.declared.write_fault.WireWriteFault.{WireWriteFault}
@@ -54,3 +54,15 @@ module _ {A B C : Type 0} (made : A → B → C) (spelled : C → List ℕ) (IsM
 
   pub reply-fails : (new last : List ℕ) (fault : WireWriteFault) → Puts (array_spelling spelled (answered_items made topic.items first)) (IsArray IsMade (answered_items made topic.items first)) mid new (Err fault) → Leaves (topic_spelling spelled) (IsTopic IsMade) all start now (answered_topics made topics ys) → Puts (flat_map (topic_spelling spelled) all) (AllByRecursion (IsTopic IsMade) all) start last (Err fault)
   reply-fails new last fault items left = Leaves-fails (topic_spelling spelled) (IsTopic IsMade) all start fault (answered_topics made topics ys) (answered_topics made others rest) (answered_topic made topic first) now new last (answered-topic made topics others topic ys first rest n e is front back) (topic-fails spelled IsMade topic.name (answered_items made topic.items first) now mid new new fault items) left
+
+-- ---- an item and its answer
+
+module _ {A B C : Type 0} (made : A → B → C) (spelled : C → List ℕ) (IsMade : C → Type 0) (all : List C) (start now : List ℕ) (xs others : List A) (ys : List B) (i : ℕ) (x : A) (e : xs ≡ x ∷ others) (lt : i < length ys) (left : Leaves spelled IsMade all start now (answered_items made xs (drop i ys))) where
+  answered : (d : B) → answered_items made xs (drop i ys) ≡ made x (get_or ys i d) ∷ answered_items made others (drop (i + 1) ys)
+  answered d = answered-one made xs others (drop i ys) (drop (i + 1) ys) x (get_or ys i d) e (drop_more ys i d lt)
+
+  pub answer-one : (d : B) (new : List ℕ) → (new ≡ now ++ spelled (made x (get_or ys i d))) × IsMade (made x (get_or ys i d)) → Leaves spelled IsMade all start new (answered_items made others (drop (i + 1) ys))
+  answer-one d new put = Leaves-one spelled IsMade all start (answered_items made xs (drop i ys)) (answered_items made others (drop (i + 1) ys)) (made x (get_or ys i d)) now new (answered d) put left
+
+  pub answer-fails : (d : B) (new last : List ℕ) (fault : WireWriteFault) → Puts (spelled (made x (get_or ys i d))) (IsMade (made x (get_or ys i d))) now new (Err fault) → Puts (flat_map spelled all) (AllByRecursion IsMade all) start last (Err fault)
+  answer-fails d new last fault put = Leaves-fails spelled IsMade all start fault (answered_items made xs (drop i ys)) (answered_items made others (drop (i + 1) ys)) (made x (get_or ys i d)) now new last (answered d) put left

@@ -56,28 +56,6 @@ impl PutItem for FetchTopic<'_> {
     }
 }
 
-impl PutItem for (i32, FetchEntry<'_>) {
-    ghost use Rattle.std.specs.Prelude.{ℤ};
-    ghost use Rattle.pc_model.specs.Messages.{FetchEntry as PlainFetchEntry, entry_spelling, IsEntry};
-    ghost use Rattle.pc_offset_wire.specs.Views.{part_entry_of};
-    ghost use Rattle.pc_offset_wire.specs.Replies.{IsAnswerable};
-
-    ghost Plain = { ℤ × PlainFetchEntry };
-    ghost plain = { part_entry_of };
-    ghost spelled = { entry_spelling };
-    ghost IsItem = { IsEntry };
-    ghost IsPutable = { λ item. IsAnswerable item.1 };
-
-    fn put(&self, out: &mut Vec<u8>) -> Result<(), WireWriteFault> {
-        let (part, entry) = self;
-        put::put_i32(out, *part)?;
-        put::put_i64(out, entry.position)?;
-        put::put_nullable(out, entry.metadata)?;
-        put::put_i16(out, entry.code)?;
-        Ok(())
-    }
-}
-
 /// Puts the body of a fetch request.
 fn put_fetch_request(
     out: &mut Vec<u8>,
@@ -94,6 +72,23 @@ fn put_fetch_request(
     put::put_header(out, OFFSET_FETCH, OFFSET_FETCH_VERSION, correlation, client)?;
     put::put_string(out, group)?;
     put::put_array(out, topics)
+}
+
+/// Puts a part and what is stored for it.
+fn put_entry(
+    out: &mut Vec<u8>,
+    part: i32,
+    entry: &FetchEntry<'_>,
+) -> Result<(), WireWriteFault>
+    requires { IsAnswerable entry.now }
+    ensures { let item = entry_for part entry.now in
+        Puts (entry_spelling item) (IsEntry item) out.old.items out.new.items result }
+{
+    put::put_i32(out, part)?;
+    put::put_i64(out, entry.position)?;
+    put::put_nullable(out, entry.metadata)?;
+    put::put_i16(out, entry.code)?;
+    Ok(())
 }
 
 /// Puts an array of the parts that were asked, each with its entry.
@@ -113,7 +108,7 @@ fn put_entries(
     let mut parts = parts;
     for entry in entries {
         if let Some(part) = parts.next() {
-            (part, *entry).put(out)?;
+            put_entry(out, part, entry)?;
         }
     }
     Ok(())
