@@ -1,16 +1,17 @@
 -- Texts put one behind the other.
 use Rattle.std.proofs.Common.{◌≡◌, ℕ, ◌+◌, ◌<◌, ◌≤◌, ◌^◌, ℤ, pos, negsuc, List, [], ◌∷◌, ◌++◌, length, map, drop, get_or, Option, Result, Ok, Err, refl, sym, ap, subst, ◌∙◌, append_assoc, arith}
-use Rattle.std.specs.Prelude.{◌≤ℤ◌, ◌-ℤ◌, unsigned_abs, FitsSigned}
+use Rattle.std.specs.Prelude.{◌≤ℤ◌, ◌-ℤ◌, unsigned_abs, FitsSigned, IfOk}
 use Rattle.std.specs.Int.{w16, w32, w64}
 use Rattle.std.specs.List.{AllByRecursion, flat_map}
 use Rattle.std.specs.Str.{IsUtf8}
 use Rattle.std.proofs.lemmas.Int.{ints}
 use Rattle.std.proofs.lemmas.List.{append-nil, at_drop_more, drop_all}
 use Rattle.std.proofs.lemmas.Str.{is_utf8-from_IsUtf8}
-use Rattle.pc_model.specs.Messages.{Topic, CommitItem, FetchEntry, IsString, IsNullable, IsArray, IsTopic, IsPosition, IsCommitItem, IsEntry, int_spelling, string_spelling, nullable_spelling, array_spelling, topic_spelling, header_spelling, commit_item_spelling, entry_spelling}
+use Rattle.pc_model.specs.declared.api.TheConstants.{OFFSET_COMMIT, OFFSET_COMMIT_VERSION}
+use Rattle.pc_model.specs.Messages.{Topic, CommitItem, CommitRequest, FetchEntry, IsString, IsNullable, IsArray, IsTopic, AreTopics, IsFrame, IsCommitRequest, IsPosition, IsCommitItem, IsEntry, int_spelling, string_spelling, nullable_spelling, array_spelling, topic_spelling, header_spelling, commit_item_spelling, entry_spelling, topics_spelling, commit_request_body}
 use Rattle.pc_offset_wire.specs.declared.write_fault.WireWriteFault.{WireWriteFault}
 use Rattle.pc_offset_wire.specs.declared.write_fault.WireWriteFault.TheVariants.{TooLong, NoMemory}
-use Rattle.pc_offset_wire.specs.Writing.{Puts}
+use Rattle.pc_offset_wire.specs.Writing.{Puts, IsCommitBody}
 
 -- a text that is no longer than a string may be is one
 pub is_string : (text : List ℕ) → IsUtf8 text → length text ≤ 32767 → IsString text
@@ -117,3 +118,41 @@ entry-put item old a b c new part fits above code ea eb ec h =
     (Puts-front (Ok tt) (int_spelling w64 item.1.position) (nullable_spelling item.1.metadata ++ int_spelling w16 item.1.code) a b new (IsEntry item) eb
     (Puts-front (Ok tt) (nullable_spelling item.1.metadata) (int_spelling w16 item.1.code) b c new (IsEntry item) ec.0
     (h, record { part = part; position = is_position (negsuc 0) item.1.position fits above; metadata = ec.1; code = code })))
+
+pub commit_request-put : (result : Result (Unit {0}) WireWriteFault) (m : CommitRequest) (old a b c d e new : List ℕ) → FitsSigned w32 m.correlation → FitsSigned w32 m.generation → FitsSigned w64 m.retention
+    → (a ≡ old ++ header_spelling OFFSET_COMMIT OFFSET_COMMIT_VERSION m.correlation m.client) × IsNullable m.client → (b ≡ a ++ string_spelling m.group) × IsString m.group → c ≡ b ++ int_spelling w32 m.generation → (d ≡ c ++ string_spelling m.member) × IsString m.member → e ≡ d ++ int_spelling w64 m.retention
+    → Puts (topics_spelling commit_item_spelling m.topics) (AreTopics IsCommitItem m.topics) e new result → Puts (commit_request_body m) (IsCommitBody m) old new result
+commit_request-put result m old a b c d e new correlation generation retention ea eb ec ed ee h =
+    let last = topics_spelling commit_item_spelling m.topics in
+    let fourth = int_spelling w64 m.retention ++ last in
+    let third = string_spelling m.member ++ fourth in
+    let second = int_spelling w32 m.generation ++ third in
+    let first = string_spelling m.group ++ second in
+    Puts-front result (header_spelling OFFSET_COMMIT OFFSET_COMMIT_VERSION m.correlation m.client) first old a new (IsCommitBody m) ea.0
+    (Puts-front result (string_spelling m.group) second a b new (IsCommitBody m) eb.0
+    (Puts-front result (int_spelling w32 m.generation) third b c new (IsCommitBody m) ec
+    (Puts-front result (string_spelling m.member) fourth c d new (IsCommitBody m) ed.0
+    (Puts-front result (int_spelling w64 m.retention) last d e new (IsCommitBody m) ee
+    (Puts-same result last e new (AreTopics IsCommitItem m.topics) (IsCommitBody m)
+        (λ topics. record { correlation = correlation; client = ea.1; group = eb.1; generation = generation; member = ed.1; retention = retention; topics = topics }) (λ w. w.topics) h)))))
+
+-- ---- a body in its frame
+
+pub framed : {V : Type 0} (items : V → List ℕ) (result : Result V WireWriteFault) (body : List ℕ) (Q : V → Type 0) → IfOk result (λ f. IsFrame (items f) body) → ((f : V) → IsFrame (items f) body → Q f) → IfOk result Q
+framed items (Ok f) body Q h go = go f h
+framed items (Err fault) body Q h go = tt
+
+pub is_commit_request : (m passed : CommitRequest) (frame old body : List ℕ) → passed ≡ m → old ≡ [] → (body ≡ old ++ commit_request_body passed) × IsCommitBody passed → IsFrame frame body → IsCommitRequest frame m
+is_commit_request m passed frame old body same empty put spelled =
+    let fits = subst IsCommitBody same put.1 in
+    let text : body ≡ commit_request_body m = put.0 ∙ ap (λ (x : List ℕ). x ++ commit_request_body passed) empty ∙ ap commit_request_body same in
+    record {
+      correlation = fits.correlation;
+      client = fits.client;
+      group = fits.group;
+      generation = fits.generation;
+      member = fits.member;
+      retention = fits.retention;
+      topics = fits.topics;
+      spelled = subst (IsFrame frame) text spelled;
+    }
