@@ -2,3 +2,4 @@ pub mod FieldLemmas
 pub mod ItemLemmas
 pub mod WritingLemmas
 pub mod ReplyLemmas
+pub mod FormatLaws
