@@ -1,0 +1,5 @@
+pub mod FieldLemmas
+pub mod ItemLemmas
+pub mod WritingLemmas
+pub mod ReplyLemmas
+pub mod FormatLaws
