@@ -1,11 +1,10 @@
 -- What is counted where an offset is complete from now on.
-use Rattle.std.proofs.Common.{◌≡◌, ℕ, suc, ◌+◌, ◌-◌, ◌^◌, ◌<◌, ◌≤◌, max, min, false, true, eqb, List, ◌++◌, length, Option, Some, None, IfSome, refl, sym, ap, subst, ◌∙◌, arith}
-use Rattle.std.specs.List.{list_any}
+use Rattle.std.proofs.Common.{◌≡◌, ℕ, ◌+◌, ◌-◌, ◌^◌, ◌<◌, ◌≤◌, max, min, List, ◌++◌, length, Option, Some, None, IfSome, refl, ap, ◌∙◌, arith}
 use Rattle.std.specs.Option.{option_map_or}
 use Rattle.std.proofs.lemmas.List.{length-append}
 use Rattle.pc_model.specs.Bits.{AreRuns}
 use Rattle.pc_partition.specs.declared.counts.Counts.{Counts}
-use Rattle.pc_partition.specs.Counts.{HasPart, IsCounted, IsPart, counts_of, counts_upto, end_of, lengths_upto, long_of, runs_below, runs_upto, start_of}
+use Rattle.pc_partition.specs.Counts.{AreCounted, HasPart, IsCounted, IsPart, counts_upto, end_of, runs_below, runs_upto}
 use Rattle.pc_partition.specs.Runs.{IsCut, IsSpliced, TakesOut, offsets_in}
 use Rattle.pc_partition.proofs.CountsLemmas.{AreRuns-runs_upto, IsRecount, IsRecount-long, IsReplaced, IsReplaced-above, IsReplaced-cut}
 use Rattle.pc_partition.proofs.RunsLemmas.{AreRuns-get_or, is_in-above, list_any-offsets_in}
@@ -74,7 +73,7 @@ pub HasPart-old : (first behind : ℕ) (runs : List (ℕ × ℕ)) (high : Option
 HasPart-old first behind runs high counts is within = record {
   in_order = AreRuns-runs_upto high runs is.in_order is.apart;
   small = is.small;
-  count_is = ap (λ (c : Counts). c.runs) is.counts_are;
+  count_is = ap (λ (c : Counts). c.runs) is.counted.are;
   within = within;
 }
 
@@ -84,6 +83,7 @@ pub record IsPassed (high' : ℕ) (new : List (ℕ × ℕ)) (counts : Counts) (h
   pub high : high_now ≡ Some high'
   pub list : list_now ≡ new
   pub runs : counts_now.runs ≡ length (runs_below high' new)
+  pub few : counts_now.runs ≤ 2 ^ 59
   pub long : counts_now.long ≡ counts.long
   pub long_2 : counts_now.long_2 ≡ counts.long_2
 
@@ -125,7 +125,10 @@ IsAnew-next first behind high' high runs new counts old now high_now list_now co
 pub counts-anew : (high' : ℕ) (new : List (ℕ × ℕ)) (counts old now : Counts) (high_now : Option ℕ) (list_now : List (ℕ × ℕ)) (counts_now last : Counts)
     → IsPassed high' new counts high_now list_now counts_now → IsAnew counts_now old now (counts_upto high_now list_now)
     → last.runs ≡ counts_now.runs → last.long ≡ counts_now.long - old.long + now.long
-    → last.long_2 ≡ counts_now.long_2 - old.long_2 + now.long_2 → last ≡ counts_upto high_now list_now
+    → last.long_2 ≡ counts_now.long_2 - old.long_2 + now.long_2 → AreCounted high_now list_now last
 counts-anew high' new counts old now high_now list_now counts_now last passed anew runs long long_2 =
     let count : last.runs ≡ length (runs_upto high_now list_now) = rw (passed.high, passed.list) (runs ∙ passed.runs) in
-    same-counts _ _ _ _ _ _ count (long ∙ anew.long.is) (long_2 ∙ anew.long_2.is)
+    record {
+      are = same-counts _ _ _ _ _ _ count (long ∙ anew.long.is) (long_2 ∙ anew.long_2.is);
+      few = omega (arith, runs, passed.few);
+    }

@@ -1,6 +1,6 @@
 -- What is counted of runs up to an end, where some of the runs are replaced.
-use Rattle.std.proofs.Common.{◌≡◌, ℕ, zero, suc, ◌+◌, ◌-◌, ◌*◌, ◌^◌, ◌<◌, ◌≤◌, ◌⊎◌, max, min, Bool, true, false, ◌||◌, ◌&&◌, cond, eqb, ltb, leb, List, [], ◌∷◌, ◌++◌, length, get_or, take, drop, Option, Some, None, IfSome, refl, sym, ap, subst, ◌∙◌, arith, inl, inr, add-one, zero-add}
-use Rattle.std.specs.List.{AllWithin, count_by, list_any, slice_get}
+use Rattle.std.proofs.Common.{◌≡◌, ℕ, zero, suc, ◌+◌, ◌-◌, ◌*◌, ◌^◌, ◌<◌, ◌≤◌, ◌⊎◌, max, min, Bool, true, false, ◌&&◌, cond, eqb, ltb, leb, List, [], ◌∷◌, ◌++◌, length, get_or, take, drop, Option, Some, None, IfSome, refl, sym, ap, subst, ◌∙◌, arith, inl, inr, add-one, zero-add}
+use Rattle.std.specs.List.{AllWithin, list_any, slice_get}
 use Rattle.std.specs.Option.{option_map_or}
 use Rattle.std.proofs.lemmas.Bool.{cases_Bool, cases_eq, cases_lt, eq-eqb, le-ltb, lt-ltb, ne_eqb}
 use Rattle.std.proofs.lemmas.Bool.Decides.{nat_tests}
@@ -11,7 +11,7 @@ use Rattle.std.proofs.Math.Seq.{drop-cons}
 use Rattle.pc_model.specs.Bits.{AreRuns, add_run}
 use Rattle.pc_model.proofs.BitsLemmas.{AreRuns-lower, AreRuns-more}
 use Rattle.pc_partition.specs.declared.counts.Counts.{Counts}
-use Rattle.pc_partition.specs.Counts.{GivesWay, IsCounted, counts_of, counts_upto, end_of, lengths_after, lengths_upto, long_of, runs_below, runs_upto, start_of}
+use Rattle.pc_partition.specs.Counts.{GivesWay, IsCounted, end_of, lengths_after, lengths_upto, long_of, runs_below, runs_upto, start_of}
 use Rattle.pc_partition.specs.Runs.{IsCut, IsSpliced, offsets_in, splice}
 use Rattle.pc_partition.proofs.RunsLemmas.{AreRuns-get_or, is_in, list_any-offsets_in}
 
@@ -481,11 +481,11 @@ pub IsReplaced-cut : (runs new : List (ℕ × ℕ)) (high : Option ℕ) (counts 
     → IsReplaced (min at counts.runs - 1) (counts.runs - (at + 1)) (end_of high) (option_map_or (max o) high o + 1)
     (runs_upto high runs) (runs_below (option_map_or (max o) high o) new)
 IsReplaced-cut runs new None counts at o is cut spliced =
-    let none = ap (λ (c : Counts). c.runs) is.counts_are in
+    let none = ap (λ (c : Counts). c.runs) is.counted.are in
     IsReplaced-behind _ _ _ _ _ _ [] [] (runs_below o new) [] (omega (arith, none)) (omega (arith, none)) refl
     (sym (append-nil (runs_below o new))) (inl refl)
 IsReplaced-cut runs new (Some high) counts at o is cut spliced =
-    let count = ap (λ (c : Counts). c.runs) is.counts_are in
+    let count = ap (λ (c : Counts). c.runs) is.counted.are in
     let below = runs_below high runs in
     let d : ℕ × ℕ = (0, 0) in
     let run = get_or runs at d in
@@ -518,7 +518,7 @@ IsReplaced-cut runs new (Some high) counts at o is cut spliced =
 pub IsReplaced-above : (runs : List (ℕ × ℕ)) (high : Option ℕ) (counts : Counts) (o : ℕ) → IsCounted runs high counts
     → AreRuns 0 o runs → IsReplaced (counts.runs - 1) 0 (end_of high) (o + 1) (runs_upto high runs) (runs_below o runs)
 IsReplaced-above runs high counts o is are =
-    let count = ap (λ (c : Counts). c.runs) is.counts_are in
+    let count = ap (λ (c : Counts). c.runs) is.counted.are in
     let upto = runs_upto high runs in
     let rest = drop (length upto) runs in
     IsReplaced-behind _ _ _ _ _ _ upto [] rest [] (omega (arith, count)) refl (sym (append-nil upto))

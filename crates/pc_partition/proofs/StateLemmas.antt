@@ -11,7 +11,7 @@ use Rattle.pc_model.proofs.BitsLemmas.{AreRuns-more, AreRuns-add_run}
 use Rattle.pc_model.specs.Numbers.{least_of}
 use Rattle.pc_model.specs.Marks.{Mark, end_at, position_at}
 use Rattle.pc_partition.specs.declared.counts.Counts.{Counts}
-use Rattle.pc_partition.specs.Counts.{counts_of, counts_upto, end_of}
+use Rattle.pc_partition.specs.Counts.{AreCounted, IsCounted, counts_of, end_of}
 use Rattle.pc_partition.specs.Runs.{TakesOut, offsets_in, without}
 use Rattle.pc_partition.specs.Window.{IsState, StandsFor, Window}
 use Rattle.pc_partition.proofs.CountsLemmas.{upto-add_run}
@@ -96,6 +96,21 @@ unfolding position_at
 position-none w b n marks is none = is.after
     ∙ sym (ap (λ o. unwrap_or o (end_at b marks)) (ap least_of (sym is.incomplete ∙ none)))
 
+-- ---- what is counted
+
+end-small : (after : ℕ) (high : Option ℕ) → IfSome high (λ h. h < after) → after < 2 ^ 63 → end_of high ≤ 2 ^ 63
+end-small after None below small = omega arith
+end-small after (Some h) below small = omega (arith, below, small)
+
+pub IsCounted-state : (runs : List (ℕ × ℕ)) (high : Option ℕ) (counts : Counts) (after polled_to pending left capacity : ℕ)
+    → IsState runs high counts after polled_to pending left capacity → IsCounted runs high counts
+IsCounted-state runs high counts after polled_to pending left capacity is = record {
+  in_order = AreRuns-all after runs is.in_order is.small;
+  small = end-small after high is.high_below is.small;
+  apart = is.high_apart;
+  counted = is.counted;
+}
+
 -- ---- one more offset
 
 apart-append : (o : ℕ) (high : Option ℕ) (offsets : List ℕ) → IfSome high (λ h. h < o)
@@ -121,8 +136,11 @@ IsState-append runs high counts after polled_to pending left capacity o is above
       high_below = below-more after (o + 1) high is.high_below (omega arith);
       high_apart = subst (λ (l : List ℕ). IfSome high (λ h. list_any (λ x. eqb x h) l ≡ false)) (sym offsets)
           (apart-append o high (offsets_in runs) (below-more after o high is.high_below above) is.high_apart);
-      counts_are = is.counts_are ∙ ap (λ (l : List (ℕ × ℕ)). counts_of (end_of high) l)
-          (sym (upto-add_run high o runs upto (below-more after o high is.high_below above) is.high_apart));
+      counted = record {
+        are = is.counted.are ∙ ap (λ (l : List (ℕ × ℕ)). counts_of (end_of high) l)
+            (sym (upto-add_run high o runs upto (below-more after o high is.high_below above) is.high_apart));
+        few = is.counted.few;
+      };
       polled_within = omega (arith, is.polled_within);
       small = omega arith;
       pending_is = is.pending_is ∙ ap (λ (l : List ℕ). length l)
@@ -137,9 +155,9 @@ IsState-append runs high counts after polled_to pending left capacity o is above
 -- a complete offset above the known ones
 pub IsState-complete : (runs : List (ℕ × ℕ)) (high : Option ℕ) (counts counts' : Counts) (after polled_to pending left capacity o : ℕ)
     → IsState runs high counts after polled_to pending left capacity → after ≤ o → o < 2 ^ 63 - 1
-    → counts' ≡ counts_upto (Some o) runs → IsState runs (Some o) counts' (o + 1) polled_to pending left capacity
-IsState-complete runs high counts counts' after polled_to pending left capacity o is above small counts_are = record {
-  counts_are = counts_are;
+    → AreCounted (Some o) runs counts' → IsState runs (Some o) counts' (o + 1) polled_to pending left capacity
+IsState-complete runs high counts counts' after polled_to pending left capacity o is above small counted = record {
+  counted = counted;
   in_order = AreRuns-upto after (o + 1) runs is.in_order (omega arith);
   high_below = omega arith;
   high_apart = list_any-offsets_in o runs ∙ is_in-above o 0 after runs is.in_order above;
@@ -181,7 +199,7 @@ IsState-poll_new runs high counts after polled_to pending left capacity o is abo
       in_order = more.in_order;
       high_below = more.high_below;
       high_apart = more.high_apart;
-      counts_are = more.counts_are;
+      counted = more.counted;
       polled_within = omega arith;
       small = more.small;
       pending_is = omega (arith, old_count, new_count, is.pending_is, is.left_is, more.left_is);
@@ -200,7 +218,7 @@ IsState-poll_known runs high counts after polled_to pending left capacity o pend
   in_order = is.in_order;
   high_below = is.high_below;
   high_apart = is.high_apart;
-  counts_are = is.counts_are;
+  counted = is.counted;
   polled_within = omega arith;
   small = is.small;
   pending_is = omega (arith, count, more, is.pending_is);
@@ -299,10 +317,10 @@ pub IsState-taken : (runs new : List (ℕ × ℕ)) (high : Option ℕ) (counts c
     → IsState runs high counts after polled_to pending left capacity
     → list_any (λ x. eqb x o) (offsets_in runs) ≡ true
     → TakesOut o (offsets_in runs) (offsets_in new) → AreRuns 0 after new
-    → counts' ≡ counts_upto (Some (option_map_or (max o) high o)) new → capacity ≤ capacity'
+    → AreCounted (Some (option_map_or (max o) high o)) new counts' → capacity ≤ capacity'
     → pending ≡ pending' + cond (ltb o polled_to) 1 0 → left ≡ left' + 1
     → IsState new (Some (option_map_or (max o) high o)) counts' after polled_to pending' left' capacity'
-IsState-taken runs new high counts counts' after polled_to pending left capacity o pending' left' capacity' is has takes are counts_are more fewer less =
+IsState-taken runs new high counts counts' after polled_to pending left capacity o pending' left' capacity' is has takes are counted more fewer less =
     let low : o < after = elim (cases_lt o after) [
       | inl lt ↦ lt
       | inr ge ↦ let none = list_any-offsets_in o runs ∙ is_in-above o 0 after runs is.in_order ge in cc
@@ -314,7 +332,7 @@ IsState-taken runs new high counts counts' after polled_to pending left capacity
       in_order = are;
       high_below = top.0;
       high_apart = top.1;
-      counts_are = counts_are;
+      counted = counted;
       polled_within = is.polled_within;
       small = is.small;
       pending_is = omega (arith, count, fewer, is.pending_is);
@@ -330,13 +348,13 @@ pub IsState-taken_polled : (runs new : List (ℕ × ℕ)) (high : Option ℕ) (c
     → IsState runs high counts after polled_to pending left capacity
     → list_any (λ x. eqb x o) (offsets_in runs) ≡ true
     → TakesOut o (offsets_in runs) (offsets_in new) → AreRuns 0 after new
-    → counts' ≡ counts_upto (Some (option_map_or (max o) high o)) new → capacity ≤ capacity' → o < polled_to
+    → AreCounted (Some (option_map_or (max o) high o)) new counts' → capacity ≤ capacity' → o < polled_to
     → IsState new (Some (option_map_or (max o) high o)) counts' after polled_to (pending - 1) (left - 1) capacity'
-IsState-taken_polled runs new high counts counts' after polled_to pending left capacity o capacity' is has takes are counts_are more polled =
+IsState-taken_polled runs new high counts counts' after polled_to pending left capacity o capacity' is has takes are counted more polled =
     let test = lt-ltb o polled_to polled in
     let count = rw test at (TakesOut-count o polled_to (offsets_in runs) (offsets_in new) takes) in
     let fewer : pending ≡ pending - 1 + 1 = omega (arith, count, is.pending_is) in
-    IsState-taken runs new high counts counts' after polled_to pending left capacity o (pending - 1) (left - 1) capacity' is has takes are counts_are more
+    IsState-taken runs new high counts counts' after polled_to pending left capacity o (pending - 1) (left - 1) capacity' is has takes are counted more
     (rw test fewer) (left-taken o left (offsets_in runs) (offsets_in new) takes is.left_is)
 
 -- an offset that was not polled
@@ -344,12 +362,12 @@ pub IsState-taken_unpolled : (runs new : List (ℕ × ℕ)) (high : Option ℕ) 
     → IsState runs high counts after polled_to pending left capacity
     → list_any (λ x. eqb x o) (offsets_in runs) ≡ true
     → TakesOut o (offsets_in runs) (offsets_in new) → AreRuns 0 after new
-    → counts' ≡ counts_upto (Some (option_map_or (max o) high o)) new → capacity ≤ capacity' → polled_to ≤ o
+    → AreCounted (Some (option_map_or (max o) high o)) new counts' → capacity ≤ capacity' → polled_to ≤ o
     → IsState new (Some (option_map_or (max o) high o)) counts' after polled_to pending (left - 1) capacity'
-IsState-taken_unpolled runs new high counts counts' after polled_to pending left capacity o capacity' is has takes are counts_are more unpolled =
+IsState-taken_unpolled runs new high counts counts' after polled_to pending left capacity o capacity' is has takes are counted more unpolled =
     let test = le-ltb o polled_to unpolled in
     let same : pending ≡ pending + 0 = omega arith in
-    IsState-taken runs new high counts counts' after polled_to pending left capacity o pending (left - 1) capacity' is has takes are counts_are more
+    IsState-taken runs new high counts counts' after polled_to pending left capacity o pending (left - 1) capacity' is has takes are counted more
     (rw test same) (left-taken o left (offsets_in runs) (offsets_in new) takes is.left_is)
 
 -- there was one to take
@@ -368,7 +386,7 @@ IsState-start b capacity small = record {
   in_order = tt;
   high_below = tt;
   high_apart = tt;
-  counts_are = refl;
+  counted = record { are = refl; few = omega arith };
   polled_within = omega arith;
   small = small;
   pending_is = refl;

@@ -46,6 +46,11 @@ end_of (Some high) = high + 1
 abbrev pub counts_upto : Option ℕ → List (ℕ × ℕ) → Counts
 counts_upto high runs = counts_of (end_of high) (runs_upto high runs)
 
+-- the counts are those, of no more runs than memory can hold
+pub record AreCounted (high : Option ℕ) (runs : List (ℕ × ℕ)) (counts : Counts) : Type 0 where
+  pub are : counts ≡ counts_upto high runs
+  pub few : counts.runs ≤ 2 ^ 59
+
 -- where the first run begins, or else the end
 abbrev pub start_of : ℕ → List (ℕ × ℕ) → ℕ
 start_of end [] = end
@@ -73,4 +78,4 @@ pub record IsCounted (runs : List (ℕ × ℕ)) (high : Option ℕ) (counts : Co
   pub in_order : AreRuns 0 (2 ^ 63) runs
   pub small : end_of high ≤ 2 ^ 63
   pub apart : IfSome high (λ h. list_any (λ o. o == h) (offsets_in runs) ≡ false)
-  pub counts_are : counts ≡ counts_upto high runs
+  pub counted : AreCounted high runs counts

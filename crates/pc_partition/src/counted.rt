@@ -4,7 +4,7 @@ ghost use Rattle.std.specs.Prelude.{◌≡◌, ℕ, ◌+◌, ◌-◌, ◌^◌, �
 ghost use Rattle.std.specs.List.{list_any};
 ghost use Rattle.std.specs.Option.{option_map_or};
 ghost use Rattle.pc_model.specs.Bits.{AreRuns};
-ghost use Rattle.pc_partition.specs.Counts.{HasPart, IsCounted, IsPart, counts_of, counts_upto, end_of, runs_below, runs_upto};
+ghost use Rattle.pc_partition.specs.Counts.{AreCounted, HasPart, IsCounted, IsPart, counts_of, end_of, runs_below, runs_upto};
 ghost use Rattle.pc_partition.specs.Runs.{TakesOut, offsets_in};
 
 use crate::counts::Counts;
@@ -51,7 +51,7 @@ impl CountedRuns {
         ensures in_order { (least count : ℕ) → AreRuns least count self.old.list.items
             → AreRuns least count self.new.list.items }
         ensures high { self.new.high ≡ Some (option_map_or (max offset) self.old.high offset) }
-        ensures counts { self.new.counts ≡ counts_upto self.new.high self.new.list.items }
+        ensures counts { AreCounted self.new.high self.new.list.items self.new.counts }
         ensures capacity { vec_capacity self.old.list ≤ vec_capacity self.new.list }
     {
         let at = runs::place_of(self.list.as_slice(), offset);
@@ -69,10 +69,9 @@ impl CountedRuns {
         requires counted { IsCounted self.old.list.items self.old.high self.old.counts }
         requires above { AreRuns 0 offset self.old.list.items }
         requires small { offset < 2 ^ 63 - 1 }
-        requires high { end_of self.old.high ≤ offset }
         ensures list { self.new.list ≡ self.old.list }
         ensures high { self.new.high ≡ Some offset }
-        ensures counts { self.new.counts ≡ counts_upto self.new.high self.new.list.items }
+        ensures counts { AreCounted self.new.high self.new.list.items self.new.counts }
     {
         let first = self.counts.runs.saturating_sub(1);
         let old = self.part(first, 0);
@@ -87,6 +86,7 @@ impl CountedRuns {
         ensures list { self.new.list ≡ self.old.list }
         ensures high { self.new.high ≡ Some high }
         ensures runs { self.new.counts.runs ≡ length (runs_below high self.old.list.items) }
+        ensures few { self.new.counts.runs ≤ 2 ^ 59 }
         ensures long { self.new.counts.long ≡ self.old.counts.long }
         ensures long_2 { self.new.counts.long_2 ≡ self.old.counts.long_2 }
     {

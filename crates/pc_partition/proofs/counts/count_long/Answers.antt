@@ -1,6 +1,5 @@
 -- One run after the other, each with the 1 bits before it.
-use Rattle.std.proofs.Common.{arith}
-use Rattle.pc_partition.proofs.CountsLemmas.{IsCounting-end, IsCounting-start, IsCountingNext-one}
+use Rattle.pc_partition.proofs.CountsLemmas.{IsCountingNext-one}
 use Rattle.pc_partition.proofs.counts.count_long.Goals as goal
 
 pub loop-start-preserved : goal.loop-start-preserved

@@ -1,5 +1,5 @@
 -- The runs up to high before and after have all in common but those beside the offset, or those that high passes.
-use Rattle.std.proofs.Common.{◌≡◌, ℕ, ◌-◌, ◌^◌, List, ap, refl, subst, ◌∙◌, arith}
+use Rattle.std.proofs.Common.{ℕ, ◌-◌, ◌^◌, List, ap, refl, subst, ◌∙◌, arith}
 use Rattle.pc_partition.specs.Runs.{IsCut}
 use Rattle.pc_partition.proofs.CountedLemmas.{HasPart-new, HasPart-old, IsAnew-next, IsNext-cut, IsPassed, counts-anew}
 use Rattle.pc_partition.proofs.counted.CountedRuns.complete.Goals as goal
@@ -20,6 +20,7 @@ part-new-requires c =
       high = c.pass.ensures.high;
       list = rw c.pass.ensures.list refl;
       runs = c.pass.ensures.runs;
+      few = c.pass.ensures.few;
       long = c.pass.ensures.long;
       long_2 = c.pass.ensures.long_2;
     } in
@@ -37,12 +38,13 @@ replace-requires c =
       high = c.pass.ensures.high;
       list = rw c.pass.ensures.list refl;
       runs = c.pass.ensures.runs;
+      few = c.pass.ensures.few;
       long = c.pass.ensures.long;
       long_2 = c.pass.ensures.long_2;
     } in
     let anew = IsAnew-next c.saturating_sub-first.result c.saturating_sub-behind.result c.greatest.result c.args.self.now.high
     c.args.self.now.list.items c.cut.new.runs.items c.args.self.now.counts c.part-old.result c.part-new.result c.pass.new.self.high
-    c.pass.new.self.list.items c.pass.new.self.counts next passed c.requires.counted.counts_are c.part-old.ensures c.part-new.ensures in
+    c.pass.new.self.list.items c.pass.new.self.counts next passed c.requires.counted.counted.are c.part-old.ensures c.part-new.ensures in
     record { long = anew.long.gives; long_2 = anew.long_2.gives }
 
 pub returns-clause-counts : goal.returns-clause-counts
@@ -57,11 +59,12 @@ returns-clause-counts c =
       high = c.pass.ensures.high;
       list = rw c.pass.ensures.list refl;
       runs = c.pass.ensures.runs;
+      few = c.pass.ensures.few;
       long = c.pass.ensures.long;
       long_2 = c.pass.ensures.long_2;
     } in
     let anew = IsAnew-next c.saturating_sub-first.result c.saturating_sub-behind.result c.greatest.result c.args.self.now.high
     c.args.self.now.list.items c.cut.new.runs.items c.args.self.now.counts c.part-old.result c.part-new.result c.pass.new.self.high
-    c.pass.new.self.list.items c.pass.new.self.counts next passed c.requires.counted.counts_are c.part-old.ensures c.part-new.ensures in
+    c.pass.new.self.list.items c.pass.new.self.counts next passed c.requires.counted.counted.are c.part-old.ensures c.part-new.ensures in
     counts-anew _ _ c.args.self.now.counts c.part-old.result c.part-new.result _ _ c.pass.new.self.counts c.replace.new.self passed anew
     c.replace.ensures.runs c.replace.ensures.long c.replace.ensures.long_2

@@ -1,7 +1,6 @@
 -- The runs up to high are the first ones.
-use Rattle.std.proofs.Common.{◌≡◌, length, take, sym, ap, ◌∙◌, arith}
+use Rattle.std.proofs.Common.{take, sym, ap, ◌∙◌, arith}
 use Rattle.std.proofs.lemmas.List.{length-take-le}
-use Rattle.pc_partition.specs.Counts.{runs_upto}
 use Rattle.pc_partition.proofs.CountsLemmas.{upto-few, upto-take}
 use Rattle.pc_partition.proofs.counted.CountedRuns.part.Goals as goal
 
@@ -11,12 +10,19 @@ slice_bounds-upto-end c = rw c.deref.ensures.value (
     sym (length-take-le c.args.self.now.counts.runs c.args.self.now.list.items (omega (arith, few, c.requires.count_is))))
 
 pub of_part-requires-clause-in_order : goal.of_part-requires-clause-in_order
-of_part-requires-clause-in_order c = rw (c.deref.ensures.value, c.end_behind.ensures, c.requires.count_is,
-    upto-take c.args.self.now.high c.args.self.now.list.items) c.requires.in_order
+of_part-requires-clause-in_order c = rw (
+  c.deref.ensures.value,
+  c.end_behind.ensures,
+  c.requires.count_is,
+  upto-take c.args.self.now.high c.args.self.now.list.items,
+) c.requires.in_order
 
 pub of_part-requires-clause-within : goal.of_part-requires-clause-within
-of_part-requires-clause-within c = rw (c.deref.ensures.value, c.requires.count_is,
-    upto-take c.args.self.now.high c.args.self.now.list.items) (omega (arith, c.requires.within, c.requires.count_is))
+of_part-requires-clause-within c = rw (
+  c.deref.ensures.value,
+  c.requires.count_is,
+  upto-take c.args.self.now.high c.args.self.now.list.items,
+) (omega (arith, c.requires.within, c.requires.count_is))
 
 pub returns : goal.returns
 returns c = λ front middle back is first_is behind_is.

@@ -1,6 +1,4 @@
 -- The search counts the runs up to the offset.
-use Rattle.std.proofs.Common.{length, subst}
-use Rattle.pc_partition.specs.Counts.{runs_below}
 use Rattle.pc_partition.proofs.CountsLemmas.{count-below}
 use Rattle.pc_partition.proofs.counted.CountedRuns.pass.Goals as goal
 

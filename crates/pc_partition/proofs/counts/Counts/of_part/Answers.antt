@@ -25,6 +25,10 @@ count_long-requires-2-clause-small c =
 
 pub returns : goal.returns
 returns c = λ front middle back is first_is behind_is.
-    rw (c.count_long.ensures, c.count_long-2.ensures, c.start_at-end.ensures,
+    rw (
+      c.count_long.ensures,
+      c.count_long-2.ensures,
+      c.start_at-end.ensures,
       middle-of c.args.first c.args.behind c.args.runs.now front middle back is first_is behind_is,
-      back-of c.args.first c.args.behind c.args.runs.now front middle back is first_is behind_is) refl
+      back-of c.args.first c.args.behind c.args.runs.now front middle back is first_is behind_is,
+    ) refl
