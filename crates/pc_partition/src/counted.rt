@@ -13,9 +13,9 @@ use std::alloc::{AllocError, Global};
 
 /// Runs with the greatest complete offset.
 ///
-/// A call looks at the runs beside those that it changes, and at those that the greatest complete
-/// offset passes. It passes a run once, so that n offsets are completed in time for n searches and
-/// n moves of a buffer's tail.
+/// A call looks at the runs beside the offset alone, and at those that the greatest complete offset
+/// passes. That offset never falls, so it passes each run once: taken over all calls, a call costs
+/// two binary searches, a move of the buffer's tail, and a few runs to look at.
 #[derive(Debug, Drop)]
 pub struct CountedRuns {
     /// The runs of incomplete offsets.
