@@ -1,5 +1,5 @@
 -- The offsets in runs.
-use Rattle.std.specs.Prelude.{ℕ, ◌+◌, ◌≡◌, ◌<◌, zero, suc, ◌≤◌, ◌==◌, not, List, [], ◌∷◌, ◌++◌, filter, length, slice_index_or}
+use Rattle.std.specs.Prelude.{ℕ, zero, suc, ◌+◌, ◌≡◌, ◌<◌, ◌≤◌, ◌==◌, not, List, [], ◌∷◌, ◌++◌, filter, length, slice_index_or}
 use Rattle.std.specs.List.{range_with_len}
 use Rattle.pc_model.specs.Bits.{AreRuns}
 
