@@ -5,7 +5,8 @@ use Rattle.pc_model.specs.Bits.{AreRuns}
 use Rattle.pc_partition.specs.declared.counts.Counts.{Counts}
 use Rattle.pc_partition.specs.Runs.{offsets_in}
 
--- from a place up to an end the lengths of the 1 bits before each run of 0 bits, of that run, and of the 1 bits behind the last
+-- from a place up to an end the lengths of the 1 bits before each run of 0 bits, of that run, and of
+-- the 1 bits behind the last
 abbrev pub lengths_after : ℕ → ℕ → List (ℕ × ℕ) → List ℕ
 lengths_after place end [] = if nat_lt place end then (end - place) ∷ [] else []
 lengths_after place end (run ∷ runs) = (run.0 - place) ∷ run.1 ∷ lengths_after (run.0 + run.1) end runs

@@ -42,7 +42,7 @@ fn bitset(count: u64, width: u64, limit: u64) -> Option<u64>
     Some(width + count.div_ceil(8))
 }
 
-// Two numbers for a run: its length, and that of the 1 bits behind it. Some of them may be too long.
+// Two numbers for a run: its length, and that of the 1 bits behind it. None of them may be long.
 fn run_length(runs: usize, long: usize, width: u64) -> Option<u64>
     requires few { runs ≤ 2 ^ 59 }
     requires width { width ≤ 4 }
