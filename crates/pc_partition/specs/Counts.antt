@@ -5,11 +5,12 @@ use Rattle.pc_model.specs.Bits.{AreRuns}
 use Rattle.pc_partition.specs.declared.counts.Counts.{Counts}
 use Rattle.pc_partition.specs.Runs.{offsets_in}
 
--- from a place up to an end the lengths of the 1 bits before each run of 0 bits, of that run, and of
--- the 1 bits behind the last
+-- from a place up to an end the lengths of the 1 bits before each run of 0 bits, of that run, and
+-- of the 1 bits behind the last
 abbrev pub lengths_after : ℕ → ℕ → List (ℕ × ℕ) → List ℕ
 lengths_after place end [] = if nat_lt place end then (end - place) ∷ [] else []
-lengths_after place end (run ∷ runs) = (run.0 - place) ∷ run.1 ∷ lengths_after (run.0 + run.1) end runs
+lengths_after place end (run ∷ runs) = (run.0 - place) ∷ run.1
+    ∷ lengths_after (run.0 + run.1) end runs
 
 -- the lengths from the first run of 0 bits on
 abbrev pub lengths_upto : ℕ → List (ℕ × ℕ) → List ℕ
@@ -59,11 +60,13 @@ start_of end (run ∷ runs) = run.0
 
 -- the counts of the runs up to an end that stand behind the first ones and before the last ones
 abbrev pub IsPart : ℕ → ℕ → ℕ → List (ℕ × ℕ) → Counts → Type 0
-IsPart first behind end runs counts = (front middle back : List (ℕ × ℕ)) → runs ≡ front ++ (middle ++ back)
-    → first ≡ length front → behind ≡ length back → counts ≡ counts_of (start_of end back) middle
+IsPart first behind end runs counts = (front middle back : List (ℕ × ℕ))
+    → runs ≡ front ++ (middle ++ back) → first ≡ length front → behind ≡ length back
+    → counts ≡ counts_of (start_of end back) middle
 
 -- the number of runs up to high, of which so many first ones and last ones can be left out
-pub record HasPart (first behind : ℕ) (high : Option ℕ) (runs : List (ℕ × ℕ)) (count : ℕ) : Type 0 where
+pub record HasPart (first behind : ℕ) (high : Option ℕ) (runs : List (ℕ × ℕ)) (count : ℕ)
+    : Type 0 where
   pub in_order : AreRuns 0 (end_of high) (runs_upto high runs)
   pub small : end_of high ≤ 2 ^ 63
   pub count_is : count ≡ length (runs_upto high runs)

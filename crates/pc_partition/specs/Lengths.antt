@@ -21,7 +21,8 @@ lengths_of bits = record {
 
 -- the length of a bit set by the number of bits, where that number is below a limit
 abbrev pub bitset_by_count : ℕ → ℕ → ℕ → Option ℕ
-bitset_by_count width limit count = if nat_lt count limit then Some (width + (count + 7) / 8) else None
+bitset_by_count width limit count = if nat_lt count limit then Some (width + (count + 7) / 8)
+    else None
 
 -- the length of runs by their number, where none is long
 abbrev pub runs_by_count : ℕ → ℕ → ℕ → Option ℕ
