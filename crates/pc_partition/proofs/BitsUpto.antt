@@ -202,14 +202,6 @@ AreRuns-position after (run ∷ runs) position are small first =
     let all = AreRuns-all after (run ∷ runs) are small in
     (omega (arith, at), all.1, all.2, all.3)
 
--- where the position lies below the known ones, the first run begins there
-pub first-position : (after : ℕ) (runs : List (ℕ × ℕ)) (position : ℕ) (d : ℕ × ℕ) → AreRuns 0 after runs
-    → position ≡ unwrap_or (least_of (offsets_in runs)) after → position < after → (get_or runs 0 d).0 ≡ position
-first-position after [] position d are first less =
-    let at : position ≡ after = first in absurd (omega arith)
-first-position after (run ∷ runs) position d are first less =
-    sym (first ∙ ap (λ o. unwrap_or o after) (least-runs 0 after run runs are))
-
 -- a high is below where the known ones end
 pub high-after : (after h : ℕ) (high : Option ℕ) → IfSome high (λ h. h < after) → high ≡ Some h → h < after
 high-after after h None below is = cc

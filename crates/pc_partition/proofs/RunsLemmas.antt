@@ -4,13 +4,13 @@ use Rattle.std.specs.List.{AllWithin, insert, list_any, range_with_len, remove}
 use Rattle.std.specs.List.Sorted.{IsNonDecreasingBy}
 use Rattle.std.proofs.lemmas.Bool.{cases_eq, eq-eqb, ne_eqb, le-ltb, ltb-true}
 use Rattle.std.proofs.lemmas.Bool.Decides.{nat_tests}
-use Rattle.std.proofs.lemmas.List.{append_assoc, append-nil, length-append}
+use Rattle.std.proofs.lemmas.List.{append_assoc, append-nil, get_or_default, length-append}
 use Rattle.std.proofs.lemmas.List.Folds.{list_any-append}
 use Rattle.std.proofs.lemmas.List.Elements.{filter-append}
 use Rattle.std.proofs.lemmas.List.FromFn.{length-range_with_len}
 use Rattle.pc_model.specs.Bits.{AreRuns, add_run}
 use Rattle.pc_model.proofs.BitsLemmas.{AreRuns-lower}
-use Rattle.pc_partition.specs.Runs.{IsCut, TakesOut, offsets_in, without}
+use Rattle.pc_partition.specs.Runs.{IsCut, IsSpliced, TakesOut, offsets_in, splice, without}
 
 -- ---- ranges
 
@@ -128,12 +128,6 @@ is_in-none o least count runs are above =
     is_in-below o (o + 1) count runs (AreRuns-after o least count runs are above) (omega arith)
 
 -- ---- one run replaced
-
--- the runs with others in the place of the one with this index
-abbrev pub splice : ℕ → List (ℕ × ℕ) → List (ℕ × ℕ) → List (ℕ × ℕ)
-splice i others [] = []
-splice zero others (run ∷ runs) = others ++ runs
-splice (suc i) others (run ∷ runs) = run ∷ splice i others runs
 
 pub splice-none : (i : ℕ) (runs : List (ℕ × ℕ)) → i < length runs → remove runs i ≡ splice i [] runs
 splice-none i [] within = absurd (omega arith)
@@ -337,9 +331,10 @@ IsCut-searched runs o k is has =
 -- ---- the cut of one run
 
 -- the offset is taken out of the runs
-pub record IsCutTo (o : ℕ) (runs new : List (ℕ × ℕ)) : Type 0 where
+pub record IsCutTo (i o : ℕ) (runs new : List (ℕ × ℕ)) : Type 0 where
   pub taken : TakesOut o (offsets_in runs) (offsets_in new)
   pub in_order : (least count : ℕ) → AreRuns least count runs → AreRuns least count new
+  pub place : IsSpliced runs i new
 
 module _ (runs : List (ℕ × ℕ)) (i o : ℕ) (run : ℕ × ℕ) (are : AreRuns 0 (2 ^ 63) runs)
     (at : IsCut runs i o) (is : run ≡ get_or runs i run) where
@@ -356,7 +351,7 @@ module _ (runs : List (ℕ × ℕ)) (i o : ℕ) (run : ℕ × ℕ) (are : AreRun
   -- what is left of the run are the offsets before and after
   cut-to : (others : List (ℕ × ℕ)) → offsets_in others ≡ range_with_len run.0 (o - run.0)
       ++ range_with_len (o + 1) (run.1 - (o - run.0) - 1)
-      → AreRuns run.0 (run.0 + run.1) others → IsCutTo o runs (splice i others runs)
+      → AreRuns run.0 (run.0 + run.1) others → IsCutTo i o runs (splice i others runs)
   cut-to others left fit =
       let whole : (o - run.0) + 1 + (run.1 - (o - run.0) - 1) ≡ run.1 = omega (arith, run-low, run-high) in
       let at_o : run.0 + (o - run.0) ≡ o = omega (arith, run-low) in
@@ -367,17 +362,22 @@ module _ (runs : List (ℕ × ℕ)) (i o : ℕ) (run : ℕ × ℕ) (are : AreRun
             (TakesOut-range o run.0 (o - run.0) (run.1 - (o - run.0) - 1) others at_o left)));
         in_order = λ least count old. AreRuns-splice least count i run others runs old at.within
             (subst (λ (r : ℕ × ℕ). AreRuns r.0 (r.0 + r.1) others) is fit);
+        place = record {
+          others = others;
+          new_is = refl;
+          fit = λ d. subst (λ (r : ℕ × ℕ). AreRuns r.0 (r.0 + r.1) others) (is ∙ get_or_default runs i run d at.within) fit;
+        };
       }
 
   pub cut-none : (new : List (ℕ × ℕ)) → o - run.0 ≡ 0 → run.1 - (o - run.0) - 1 ≡ 0
-      → new ≡ remove runs i → IsCutTo o runs new
+      → new ≡ remove runs i → IsCutTo i o runs new
   cut-none new before after new_is = rw (new_is, splice-none i runs at.within)
       (cut-to [] (sym (ap (range_with_len run.0) before)
       ∙ sym (append-nil (range_with_len run.0 (o - run.0)))
       ∙ ap (λ (n : ℕ). range_with_len run.0 (o - run.0) ++ range_with_len (o + 1) n) (sym after)) tt)
 
   pub cut-first : (new : List (ℕ × ℕ)) → o - run.0 ≡ 0 → (run.1 - (o - run.0) - 1 ≡ 0 → ⊥)
-      → new ≡ set runs i (o + 1, run.1 - (o - run.0) - 1) → IsCutTo o runs new
+      → new ≡ set runs i (o + 1, run.1 - (o - run.0) - 1) → IsCutTo i o runs new
   cut-first new before after new_is =
       rw (new_is, splice-one i (o + 1, run.1 - (o - run.0) - 1) runs at.within)
       (cut-to ((o + 1, run.1 - (o - run.0) - 1) ∷ [])
@@ -385,7 +385,7 @@ module _ (runs : List (ℕ × ℕ)) (i o : ℕ) (run : ℕ × ℕ) (are : AreRun
       (omega (arith, run-low), omega (arith, after), omega (arith, run-low, run-high), tt))
 
   pub cut-last : (new : List (ℕ × ℕ)) → (o - run.0 ≡ 0 → ⊥) → run.1 - (o - run.0) - 1 ≡ 0
-      → new ≡ set runs i (run.0, o - run.0) → IsCutTo o runs new
+      → new ≡ set runs i (run.0, o - run.0) → IsCutTo i o runs new
   cut-last new before after new_is =
       rw (new_is, splice-one i (run.0, o - run.0) runs at.within)
       (cut-to ((run.0, o - run.0) ∷ []) (rw after refl)
@@ -393,7 +393,7 @@ module _ (runs : List (ℕ × ℕ)) (i o : ℕ) (run : ℕ × ℕ) (are : AreRun
 
   pub cut-middle : (new : List (ℕ × ℕ)) → (o - run.0 ≡ 0 → ⊥) → (run.1 - (o - run.0) - 1 ≡ 0 → ⊥)
       → new ≡ insert (set runs i (run.0, o - run.0)) (i + 1) (o + 1, run.1 - (o - run.0) - 1)
-      → IsCutTo o runs new
+      → IsCutTo i o runs new
   cut-middle new before after new_is =
       rw (new_is, splice-two i (run.0, o - run.0) (o + 1, run.1 - (o - run.0) - 1) runs at.within)
       (cut-to ((run.0, o - run.0) ∷ (o + 1, run.1 - (o - run.0) - 1) ∷ [])

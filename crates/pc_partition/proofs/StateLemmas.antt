@@ -10,8 +10,11 @@ use Rattle.pc_model.specs.Bits.{AreRuns, add_run}
 use Rattle.pc_model.proofs.BitsLemmas.{AreRuns-more, AreRuns-add_run}
 use Rattle.pc_model.specs.Numbers.{least_of}
 use Rattle.pc_model.specs.Marks.{Mark, end_at, position_at}
+use Rattle.pc_partition.specs.declared.counts.Counts.{Counts}
+use Rattle.pc_partition.specs.Counts.{AreCounted, IsCounted, counts_of, end_of}
 use Rattle.pc_partition.specs.Runs.{TakesOut, offsets_in, without}
 use Rattle.pc_partition.specs.Window.{IsState, StandsFor, Window}
+use Rattle.pc_partition.proofs.CountsLemmas.{upto-add_run}
 use Rattle.pc_partition.proofs.RunsLemmas.{is_in-above, list_any-offsets_in, offsets_in-add_run}
 
 -- ---- runs
@@ -93,6 +96,21 @@ unfolding position_at
 position-none w b n marks is none = is.after
     ∙ sym (ap (λ o. unwrap_or o (end_at b marks)) (ap least_of (sym is.incomplete ∙ none)))
 
+-- ---- what is counted
+
+end-small : (after : ℕ) (high : Option ℕ) → IfSome high (λ h. h < after) → after < 2 ^ 63 → end_of high ≤ 2 ^ 63
+end-small after None below small = omega arith
+end-small after (Some h) below small = omega (arith, below, small)
+
+pub IsCounted-state : (runs : List (ℕ × ℕ)) (high : Option ℕ) (counts : Counts) (after polled_to pending left capacity : ℕ)
+    → IsState runs high counts after polled_to pending left capacity → IsCounted runs high counts
+IsCounted-state runs high counts after polled_to pending left capacity is = record {
+  in_order = AreRuns-all after runs is.in_order is.small;
+  small = end-small after high is.high_below is.small;
+  apart = is.high_apart;
+  counted = is.counted;
+}
+
 -- ---- one more offset
 
 apart-append : (o : ℕ) (high : Option ℕ) (offsets : List ℕ) → IfSome high (λ h. h < o)
@@ -107,10 +125,10 @@ below-more after o None below le = tt
 below-more after o (Some h) below le = omega (arith, below, le)
 
 -- an incomplete offset above the known ones
-pub IsState-append : (runs : List (ℕ × ℕ)) (high : Option ℕ) (after polled_to pending left capacity o : ℕ)
-    → IsState runs high after polled_to pending left capacity → after ≤ o → o < 2 ^ 63 - 1 → left < capacity
-    → IsState (add_run runs o 1) high (o + 1) polled_to pending (left + 1) capacity
-IsState-append runs high after polled_to pending left capacity o is above small room =
+pub IsState-append : (runs : List (ℕ × ℕ)) (high : Option ℕ) (counts : Counts) (after polled_to pending left capacity o : ℕ)
+    → IsState runs high counts after polled_to pending left capacity → after ≤ o → o < 2 ^ 63 - 1 → left < capacity
+    → IsState (add_run runs o 1) high counts (o + 1) polled_to pending (left + 1) capacity
+IsState-append runs high counts after polled_to pending left capacity o is above small room =
     let upto = AreRuns-upto after o runs is.in_order above in
     let offsets = offsets_in-add_run 0 o runs upto in
     record {
@@ -118,6 +136,11 @@ IsState-append runs high after polled_to pending left capacity o is above small 
       high_below = below-more after (o + 1) high is.high_below (omega arith);
       high_apart = subst (λ (l : List ℕ). IfSome high (λ h. list_any (λ x. eqb x h) l ≡ false)) (sym offsets)
           (apart-append o high (offsets_in runs) (below-more after o high is.high_below above) is.high_apart);
+      counted = record {
+        are = is.counted.are ∙ ap (λ (l : List (ℕ × ℕ)). counts_of (end_of high) l)
+            (sym (upto-add_run high o runs upto (below-more after o high is.high_below above) is.high_apart));
+        few = is.counted.few;
+      };
       polled_within = omega (arith, is.polled_within);
       small = omega arith;
       pending_is = is.pending_is ∙ ap (λ (l : List ℕ). length l)
@@ -130,10 +153,11 @@ IsState-append runs high after polled_to pending left capacity o is above small 
     }
 
 -- a complete offset above the known ones
-pub IsState-complete : (runs : List (ℕ × ℕ)) (high : Option ℕ) (after polled_to pending left capacity o : ℕ)
-    → IsState runs high after polled_to pending left capacity → after ≤ o → o < 2 ^ 63 - 1
-    → IsState runs (Some o) (o + 1) polled_to pending left capacity
-IsState-complete runs high after polled_to pending left capacity o is above small = record {
+pub IsState-complete : (runs : List (ℕ × ℕ)) (high : Option ℕ) (counts counts' : Counts) (after polled_to pending left capacity o : ℕ)
+    → IsState runs high counts after polled_to pending left capacity → after ≤ o → o < 2 ^ 63 - 1
+    → AreCounted (Some o) runs counts' → IsState runs (Some o) counts' (o + 1) polled_to pending left capacity
+IsState-complete runs high counts counts' after polled_to pending left capacity o is above small counted = record {
+  counted = counted;
   in_order = AreRuns-upto after (o + 1) runs is.in_order (omega arith);
   high_below = omega arith;
   high_apart = list_any-offsets_in o runs ∙ is_in-above o 0 after runs is.in_order above;
@@ -161,12 +185,12 @@ position-no_first w b n marks (one ∷ runs) is incomplete first = cc
 -- ---- polls
 
 -- a new offset, where all that are known were polled
-pub IsState-poll_new : (runs : List (ℕ × ℕ)) (high : Option ℕ) (after polled_to pending left capacity o : ℕ)
-    → IsState runs high after polled_to pending left capacity → after ≤ o → o < 2 ^ 63 - 1 → left < capacity
+pub IsState-poll_new : (runs : List (ℕ × ℕ)) (high : Option ℕ) (counts : Counts) (after polled_to pending left capacity o : ℕ)
+    → IsState runs high counts after polled_to pending left capacity → after ≤ o → o < 2 ^ 63 - 1 → left < capacity
     → polled_to ≡ after
-    → IsState (add_run runs o 1) high (o + 1) (o + 1) (pending + 1) (left + 1) capacity
-IsState-poll_new runs high after polled_to pending left capacity o is above small room all =
-    let more = IsState-append runs high after polled_to pending left capacity o is above small room in
+    → IsState (add_run runs o 1) high counts (o + 1) (o + 1) (pending + 1) (left + 1) capacity
+IsState-poll_new runs high counts after polled_to pending left capacity o is above small room all =
+    let more = IsState-append runs high counts after polled_to pending left capacity o is above small room in
     let old = filter-runs polled_to 0 after runs is.in_order (omega (arith, all)) in
     let new = filter-runs (o + 1) 0 (o + 1) (add_run runs o 1) more.in_order (omega arith) in
     let old_count = ap (λ (l : List ℕ). length l) old in
@@ -175,6 +199,7 @@ IsState-poll_new runs high after polled_to pending left capacity o is above smal
       in_order = more.in_order;
       high_below = more.high_below;
       high_apart = more.high_apart;
+      counted = more.counted;
       polled_within = omega arith;
       small = more.small;
       pending_is = omega (arith, old_count, new_count, is.pending_is, is.left_is, more.left_is);
@@ -183,16 +208,17 @@ IsState-poll_new runs high after polled_to pending left capacity o is above smal
     }
 
 -- an offset that was known
-pub IsState-poll_known : (runs : List (ℕ × ℕ)) (high : Option ℕ) (after polled_to pending left capacity o pending' : ℕ)
-    → IsState runs high after polled_to pending left capacity → o < after
+pub IsState-poll_known : (runs : List (ℕ × ℕ)) (high : Option ℕ) (counts : Counts) (after polled_to pending left capacity o pending' : ℕ)
+    → IsState runs high counts after polled_to pending left capacity → o < after
     → length (filter (λ x. ltb x (o + 1)) (offsets_in runs)) ≡ length (filter (λ x. ltb x polled_to) (offsets_in runs))
     + cond (list_any (λ x. eqb x o) (offsets_in runs)) 1 0
     → pending' ≡ pending + cond (list_any (λ x. eqb x o) (offsets_in runs)) 1 0
-    → IsState runs high after (o + 1) pending' left capacity
-IsState-poll_known runs high after polled_to pending left capacity o pending' is known count more = record {
+    → IsState runs high counts after (o + 1) pending' left capacity
+IsState-poll_known runs high counts after polled_to pending left capacity o pending' is known count more = record {
   in_order = is.in_order;
   high_below = is.high_below;
   high_apart = is.high_apart;
+  counted = is.counted;
   polled_within = omega arith;
   small = is.small;
   pending_is = omega (arith, count, more, is.pending_is);
@@ -277,7 +303,7 @@ TakesOut-gone o old new takes = ap (list_any (λ x. eqb x o)) takes.new_is
     ∙ list_any-append (λ x. eqb x o) takes.front takes.back
     ∙ rw (any-apart o takes.front takes.front_apart, any-apart o takes.back takes.back_apart) refl
 
-high-taken : (o after : ℕ) (high : Option ℕ) (old new : List ℕ) → TakesOut o old new → o < after
+pub high-taken : (o after : ℕ) (high : Option ℕ) (old new : List ℕ) → TakesOut o old new → o < after
     → IfSome high (λ h. h < after) → IfSome high (λ h. list_any (λ x. eqb x h) old ≡ false)
     → (option_map_or (max o) high o < after)
     × (list_any (λ x. eqb x (option_map_or (max o) high o)) new ≡ false)
@@ -287,13 +313,14 @@ high-taken o after (Some h) old new takes low below apart = elim (cases_lt o h) 
   | inr more ↦ let top : max o h ≡ o = omega arith in rw top (low, TakesOut-gone o old new takes)
 ]
 
-pub IsState-taken : (runs new : List (ℕ × ℕ)) (high : Option ℕ) (after polled_to pending left capacity o pending' left' capacity' : ℕ)
-    → IsState runs high after polled_to pending left capacity
+pub IsState-taken : (runs new : List (ℕ × ℕ)) (high : Option ℕ) (counts counts' : Counts) (after polled_to pending left capacity o pending' left' capacity' : ℕ)
+    → IsState runs high counts after polled_to pending left capacity
     → list_any (λ x. eqb x o) (offsets_in runs) ≡ true
-    → TakesOut o (offsets_in runs) (offsets_in new) → AreRuns 0 after new → capacity ≤ capacity'
+    → TakesOut o (offsets_in runs) (offsets_in new) → AreRuns 0 after new
+    → AreCounted (Some (option_map_or (max o) high o)) new counts' → capacity ≤ capacity'
     → pending ≡ pending' + cond (ltb o polled_to) 1 0 → left ≡ left' + 1
-    → IsState new (Some (option_map_or (max o) high o)) after polled_to pending' left' capacity'
-IsState-taken runs new high after polled_to pending left capacity o pending' left' capacity' is has takes are more fewer less =
+    → IsState new (Some (option_map_or (max o) high o)) counts' after polled_to pending' left' capacity'
+IsState-taken runs new high counts counts' after polled_to pending left capacity o pending' left' capacity' is has takes are counted more fewer less =
     let low : o < after = elim (cases_lt o after) [
       | inl lt ↦ lt
       | inr ge ↦ let none = list_any-offsets_in o runs ∙ is_in-above o 0 after runs is.in_order ge in cc
@@ -305,6 +332,7 @@ IsState-taken runs new high after polled_to pending left capacity o pending' lef
       in_order = are;
       high_below = top.0;
       high_apart = top.1;
+      counted = counted;
       polled_within = is.polled_within;
       small = is.small;
       pending_is = omega (arith, count, fewer, is.pending_is);
@@ -316,28 +344,30 @@ left-taken : (o left : ℕ) (old new : List ℕ) → TakesOut o old new → left
 left-taken o left old new takes is = let len = TakesOut-length o old new takes in omega (arith, len, is)
 
 -- a polled offset that was open
-pub IsState-taken_polled : (runs new : List (ℕ × ℕ)) (high : Option ℕ) (after polled_to pending left capacity o capacity' : ℕ)
-    → IsState runs high after polled_to pending left capacity
+pub IsState-taken_polled : (runs new : List (ℕ × ℕ)) (high : Option ℕ) (counts counts' : Counts) (after polled_to pending left capacity o capacity' : ℕ)
+    → IsState runs high counts after polled_to pending left capacity
     → list_any (λ x. eqb x o) (offsets_in runs) ≡ true
-    → TakesOut o (offsets_in runs) (offsets_in new) → AreRuns 0 after new → capacity ≤ capacity' → o < polled_to
-    → IsState new (Some (option_map_or (max o) high o)) after polled_to (pending - 1) (left - 1) capacity'
-IsState-taken_polled runs new high after polled_to pending left capacity o capacity' is has takes are more polled =
+    → TakesOut o (offsets_in runs) (offsets_in new) → AreRuns 0 after new
+    → AreCounted (Some (option_map_or (max o) high o)) new counts' → capacity ≤ capacity' → o < polled_to
+    → IsState new (Some (option_map_or (max o) high o)) counts' after polled_to (pending - 1) (left - 1) capacity'
+IsState-taken_polled runs new high counts counts' after polled_to pending left capacity o capacity' is has takes are counted more polled =
     let test = lt-ltb o polled_to polled in
     let count = rw test at (TakesOut-count o polled_to (offsets_in runs) (offsets_in new) takes) in
     let fewer : pending ≡ pending - 1 + 1 = omega (arith, count, is.pending_is) in
-    IsState-taken runs new high after polled_to pending left capacity o (pending - 1) (left - 1) capacity' is has takes are more
+    IsState-taken runs new high counts counts' after polled_to pending left capacity o (pending - 1) (left - 1) capacity' is has takes are counted more
     (rw test fewer) (left-taken o left (offsets_in runs) (offsets_in new) takes is.left_is)
 
 -- an offset that was not polled
-pub IsState-taken_unpolled : (runs new : List (ℕ × ℕ)) (high : Option ℕ) (after polled_to pending left capacity o capacity' : ℕ)
-    → IsState runs high after polled_to pending left capacity
+pub IsState-taken_unpolled : (runs new : List (ℕ × ℕ)) (high : Option ℕ) (counts counts' : Counts) (after polled_to pending left capacity o capacity' : ℕ)
+    → IsState runs high counts after polled_to pending left capacity
     → list_any (λ x. eqb x o) (offsets_in runs) ≡ true
-    → TakesOut o (offsets_in runs) (offsets_in new) → AreRuns 0 after new → capacity ≤ capacity' → polled_to ≤ o
-    → IsState new (Some (option_map_or (max o) high o)) after polled_to pending (left - 1) capacity'
-IsState-taken_unpolled runs new high after polled_to pending left capacity o capacity' is has takes are more unpolled =
+    → TakesOut o (offsets_in runs) (offsets_in new) → AreRuns 0 after new
+    → AreCounted (Some (option_map_or (max o) high o)) new counts' → capacity ≤ capacity' → polled_to ≤ o
+    → IsState new (Some (option_map_or (max o) high o)) counts' after polled_to pending (left - 1) capacity'
+IsState-taken_unpolled runs new high counts counts' after polled_to pending left capacity o capacity' is has takes are counted more unpolled =
     let test = le-ltb o polled_to unpolled in
     let same : pending ≡ pending + 0 = omega arith in
-    IsState-taken runs new high after polled_to pending left capacity o pending (left - 1) capacity' is has takes are more
+    IsState-taken runs new high counts counts' after polled_to pending left capacity o pending (left - 1) capacity' is has takes are counted more
     (rw test same) (left-taken o left (offsets_in runs) (offsets_in new) takes is.left_is)
 
 -- there was one to take
@@ -351,11 +381,12 @@ pending-some o polled_to pending old new takes is polled =
 
 -- ---- the start
 
-pub IsState-start : (b capacity : ℕ) → b < 2 ^ 63 → IsState [] None b b 0 0 capacity
+pub IsState-start : (b capacity : ℕ) → b < 2 ^ 63 → IsState [] None (counts_of 0 []) b b 0 0 capacity
 IsState-start b capacity small = record {
   in_order = tt;
   high_below = tt;
   high_apart = tt;
+  counted = record { are = refl; few = omega arith };
   polled_within = omega arith;
   small = small;
   pending_is = refl;

@@ -4,6 +4,8 @@ use Rattle.std.specs.List.{list_any}
 use Rattle.std.specs.Option.{option_map_or}
 use Rattle.pc_model.specs.Bits.{AreRuns}
 use Rattle.pc_model.specs.Marks.{Mark, offsets_of, incomplete_offsets, high_at, end_at}
+use Rattle.pc_partition.specs.declared.counts.Counts.{Counts}
+use Rattle.pc_partition.specs.Counts.{AreCounted}
 use Rattle.pc_partition.specs.Runs.{offsets_in, without}
 
 -- the incomplete known offsets in order, the greatest complete one, the offset after the known ones,
@@ -62,11 +64,12 @@ pub record PartitionView : Type 0 where
   pub room : ℕ
 
 -- what the fields of a state say of each other
-pub record IsState (runs : List (ℕ × ℕ)) (high : Option ℕ) (after polled_to pending left capacity : ℕ)
-    : Type 0 where
+pub record IsState (runs : List (ℕ × ℕ)) (high : Option ℕ) (counts : Counts)
+    (after polled_to pending left capacity : ℕ) : Type 0 where
   pub in_order : AreRuns 0 after runs
   pub high_below : IfSome high (λ h. h < after)
   pub high_apart : IfSome high (λ h. list_any (λ o. o == h) (offsets_in runs) ≡ false)
+  pub counted : AreCounted high runs counts
   pub polled_within : polled_to ≤ after
   pub small : after < 2 ^ 63
   pub pending_is : pending ≡ length (filter (λ o. nat_lt o polled_to) (offsets_in runs))

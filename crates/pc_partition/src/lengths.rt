@@ -1,18 +1,9 @@
 //! The lengths of the encodings of completion bits, found without spelling any.
 
-ghost use Rattle.std.specs.Prelude.{◌≡◌, ℕ, ◌+◌, ◌-◌, ◌*◌, ◌/◌, ◌^◌, ◌<◌, ◌≤◌, ◌==◌, false, length, nat_lt, slice_index_or, if◌then◌else◌, Some, None};
-ghost use Rattle.std.specs.List.{list_all, list_any};
-ghost use Rattle.pc_model.specs.Bits.{AreRuns, bits_between};
-ghost use Rattle.pc_model.proofs.RunLemmas.{lengths_by_runs};
-ghost use Rattle.pc_partition.specs.Lengths.{lengths_of};
-ghost use Rattle.pc_partition.specs.Runs.{offsets_in};
+ghost use Rattle.std.specs.Prelude.{◌≡◌, ◌^◌, ◌≤◌};
+ghost use Rattle.pc_partition.specs.Lengths.{bitset_by_count, lengths_by_counts, runs_by_count};
 
-use crate::runs;
-
-// Below these a number of two bytes, and one of four, has its top bit 0.
-const LIMIT_1: u64 = 1 << 15;
-
-const LIMIT_2: u64 = 1 << 31;
+use crate::counts::{Counts, LIMIT_1, LIMIT_2};
 
 /// How many bytes each encoding has behind its letter. None where it cannot hold the bits.
 #[derive(Clone, Copy, Debug, PartialEq, Eq)]
@@ -27,31 +18,23 @@ pub struct Lengths {
     pub runlength2: Option<u64>,
 }
 
-/// The lengths for the bits from a position, where the first run begins, to an offset that is in no
-/// run.
-pub fn of_runs(runs: &[(u64, u64)], position: u64, high: u64) -> Lengths
-    requires in_order { AreRuns position (2 ^ 63) runs.now }
-    requires some { 0 < length runs.now }
-    requires first { (d : ℕ × ℕ) → (slice_index_or runs.now 0 d).0 ≡ position }
-    requires upto { position ≤ high }
-    requires small { high < 2 ^ 63 - 1 }
-    requires apart { list_any (λ o. o == high) (offsets_in runs.now) ≡ false }
-    ensures { result ≡ lengths_of (bits_between position high (offsets_in runs.now)) }
+/// The lengths for so many bits, of which the runs are counted.
+pub fn of_counts(count: u64, counts: &Counts) -> Lengths
+    requires { counts.now.runs ≤ 2 ^ 59 }
+    ensures { result ≡ lengths_by_counts count counts.now }
 {
-    let below = &runs[..runs::count_upto(runs, high)];
-    let end = high + 1;
     Lengths {
-        bitset: bitset(end - position, 2, LIMIT_1),
-        runlength: run_length(below, position, end, 2, LIMIT_1),
-        bitset2: bitset(end - position, 4, LIMIT_2),
-        runlength2: run_length(below, position, end, 4, LIMIT_2),
+        bitset: bitset(count, 2, LIMIT_1),
+        runlength: run_length(counts.runs, counts.long, 2),
+        bitset2: bitset(count, 4, LIMIT_2),
+        runlength2: run_length(counts.runs, counts.long_2, 4),
     }
 }
 
 // The number of so many bits, and the bits.
 fn bitset(count: u64, width: u64, limit: u64) -> Option<u64>
     requires { width ≤ 4 }
-    ensures { result ≡ (if nat_lt count limit then Some (width + (count + 7) / 8) else None) }
+    ensures { result ≡ bitset_by_count width limit count }
 {
     if count >= limit {
         return None;
@@ -59,36 +42,14 @@ fn bitset(count: u64, width: u64, limit: u64) -> Option<u64>
     Some(width + count.div_ceil(8))
 }
 
-// Two numbers for a run: its length, and that of the 1 bits behind it.
-fn run_length(runs: &[(u64, u64)], position: u64, end: u64, width: u64, limit: u64) -> Option<u64>
-    requires in_order { AreRuns position end runs.now }
-    requires upto { position ≤ end }
-    requires small { end ≤ 2 ^ 63 }
-    requires some { 0 < limit }
+// Two numbers for a run: its length, and that of the 1 bits behind it. None of them may be long.
+fn run_length(runs: usize, long: usize, width: u64) -> Option<u64>
+    requires few { runs ≤ 2 ^ 59 }
     requires width { width ≤ 4 }
-    ensures { result ≡ (if list_all (λ n. nat_lt n limit) (lengths_by_runs position end runs.now)
-        then Some (width * (2 * length runs.now)) else None) }
+    ensures { result ≡ runs_by_count width runs long }
 {
-    if end - position >= limit && !all_below(runs, position, end, limit) {
+    if long > 0 {
         return None;
     }
-    Some(width * (2 * runs.len() as u64))
-}
-
-// Whether each run, and each of the 1 bits between them, is shorter than the limit.
-fn all_below(runs: &[(u64, u64)], position: u64, end: u64, limit: u64) -> bool
-    requires in_order { AreRuns position end runs.now }
-    requires upto { position ≤ end }
-    requires small { end ≤ 2 ^ 63 }
-    requires some { 0 < limit }
-    ensures { result ≡ list_all (λ n. nat_lt n limit) (lengths_by_runs position end runs.now) }
-{
-    let mut place = position;
-    for (start, size) in runs {
-        if start - place >= limit || *size >= limit {
-            return false;
-        }
-        place = start + size;
-    }
-    end - place < limit
+    Some(width * (2 * runs as u64))
 }

@@ -2,6 +2,8 @@
 //! between them.
 #![tactic(auto)]
 
+mod counted;
+mod counts;
 mod lengths;
 mod runs;
 mod state;

@@ -3,7 +3,7 @@
 ghost use Rattle.std.specs.Prelude.{◌≡◌, ℕ, ◌+◌, ◌-◌, ◌^◌, ◌<◌, ◌≤◌, ◌==◌, true, false, length, IfOk, vec_len, vec_capacity};
 ghost use Rattle.std.specs.List.{AllWithin, list_any};
 ghost use Rattle.pc_model.specs.Bits.{AreRuns, add_run, bits_between};
-ghost use Rattle.pc_partition.specs.Runs.{IsCut, TakesOut, offsets_in};
+ghost use Rattle.pc_partition.specs.Runs.{IsCut, IsSpliced, TakesOut, offsets_in};
 
 use pc_model::Bits;
 use std::alloc::{AllocError, Global};
@@ -50,28 +50,24 @@ pub fn append(runs: &mut Vec<(u64, u64)>, offset: u64)
     runs.push_reserved((offset, 1));
 }
 
-/// Takes the offset out of the run that it is in. Takes no memory.
-pub fn take_out(runs: &mut Vec<(u64, u64)>, offset: u64)
-    requires in_order { AreRuns 0 (2 ^ 63) runs.old.items }
-    requires has { list_any (λ o. o == offset) (offsets_in runs.old.items) ≡ true }
-    requires room { length (offsets_in runs.old.items) ≤ vec_capacity runs.old }
-    ensures taken { TakesOut offset (offsets_in runs.old.items) (offsets_in runs.new.items) }
-    ensures in_order { (least count : ℕ) → AreRuns least count runs.old.items
-        → AreRuns least count runs.new.items }
-    ensures capacity { vec_capacity runs.old ≤ vec_capacity runs.new }
+/// The index of the run that has the offset, by a binary search.
+pub fn place_of(runs: &[(u64, u64)], offset: u64) -> usize
+    requires in_order { AreRuns 0 (2 ^ 63) runs.now }
+    requires has { list_any (λ o. o == offset) (offsets_in runs.now) ≡ true }
+    ensures { IsCut runs.now result offset }
 {
-    let count = count_upto(runs.as_slice(), offset);
-    cut(runs, count - 1, offset);
+    count_upto(runs, offset) - 1
 }
 
-/// Takes the offset out of the run with this index.
-fn cut(runs: &mut Vec<(u64, u64)>, at: usize, offset: u64)
+/// Takes the offset out of the run with this index. Takes no memory.
+pub fn cut(runs: &mut Vec<(u64, u64)>, at: usize, offset: u64)
     requires in_order { AreRuns 0 (2 ^ 63) runs.old.items }
     requires at { IsCut runs.old.items at offset }
     requires room { length (offsets_in runs.old.items) ≤ vec_capacity runs.old }
     ensures taken { TakesOut offset (offsets_in runs.old.items) (offsets_in runs.new.items) }
     ensures in_order { (least count : ℕ) → AreRuns least count runs.old.items
         → AreRuns least count runs.new.items }
+    ensures place { IsSpliced runs.old.items at runs.new.items }
     ensures capacity { vec_capacity runs.old ≤ vec_capacity runs.new }
 {
     let (start, size) = runs[at];

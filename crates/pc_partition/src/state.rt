@@ -2,15 +2,16 @@
 //! one, and where the known and the polled ones end; `StandsFor` says of which begin and marks, of
 //! which the first n were polled, that is the state.
 
-ghost use Rattle.std.specs.Prelude.{◌≡◌, ℕ, ◌+◌, ◌-◌, ◌^◌, ◌<◌, ◌≤◌, ◌==◌, [], ◌∷◌, not, true, max, List, map, take, length, IfOk, OnErr, OnOk};
+ghost use Rattle.std.specs.Prelude.{◌≡◌, ℕ, ◌+◌, ◌-◌, ◌^◌, ◌<◌, ◌≤◌, ◌==◌, [], ◌∷◌, not, true, List, map, take, length, IfOk, OnErr, OnOk};
 ghost use Rattle.std.specs.List.{list_any};
-ghost use Rattle.std.specs.Option.{option_map, option_map_or, unwrap_or};
+ghost use Rattle.std.specs.Option.{option_map, unwrap_or};
 ghost use Rattle.pc_model.specs.Numbers.{least_of};
 ghost use Rattle.pc_model.specs.Marks.{Mark, bits_at, high_at, incomplete_offsets, position_at};
 ghost use Rattle.pc_model.specs.OneMore.{with_complete};
 ghost use Rattle.pc_partition.specs.Lengths.{lengths_of};
 ghost use Rattle.pc_partition.specs.Window.{AreNext, RisesFrom, StandsFor, inherit_window, marks_of_pairs, open_polled, poll_window, some_bits, succeed_window, with_polled};
 
+use crate::counted::CountedRuns;
 use crate::lengths::{self, Lengths};
 use crate::runs;
 use pc_model::Bits;
@@ -20,11 +21,9 @@ use std::marker::Model;
 /// Which known offsets of a part are complete. The memory goes by the number of incomplete ones.
 #[derive(Debug, Drop)]
 pub struct PartitionState {
-    // The runs of incomplete offsets, with a place for each incomplete offset. The window begins
-    // with the first of them.
-    runs: Vec<(u64, u64)>,
-    // The greatest complete offset.
-    high: Option<u64>,
+    // The runs of incomplete offsets, with a place for each incomplete offset, the greatest
+    // complete offset, and the counts up to it. The window begins with the first run.
+    runs: CountedRuns,
     // The offset after the known ones.
     after: u64,
     // The offset after the polled ones.
@@ -44,16 +43,16 @@ impl Model for PartitionState {
 
     ghost view = { λ s. record {
       window = record {
-        incomplete = offsets_in s.runs.items;
-        high = s.high;
+        incomplete = offsets_in s.runs.list.items;
+        high = s.runs.high;
         after = s.after;
         polled_to = s.polled_to;
       };
-      room = vec_capacity s.runs - s.left;
+      room = vec_capacity s.runs.list - s.left;
     } };
 
-    ghost invariant = { λ s. IsState s.runs.items s.high s.after s.polled_to s.pending s.left
-        (vec_capacity s.runs) };
+    ghost invariant = { λ s. IsState s.runs.list.items s.runs.high s.runs.counts s.after
+        s.polled_to s.pending s.left (vec_capacity s.runs.list) };
 }
 
 impl PartitionState {
@@ -69,8 +68,7 @@ impl PartitionState {
             (λ s. StandsFor s.window begin 0 (marks_of_pairs inherited.now)) }
     {
         let mut state = PartitionState {
-            runs: Vec::with_capacity(alloc, inherited.len())?,
-            high: None,
+            runs: CountedRuns::with_capacity(alloc, inherited.len())?,
             after: begin,
             polled_to: begin,
             pending: 0,
@@ -95,8 +93,8 @@ impl PartitionState {
             (with_polled n marks offsets.now)) }
         ensures stays { OnErr result (self.new.window ≡ self.old.window) }
     {
-        let room = offsets.len() + (self.left - self.runs.as_slice().len());
-        self.runs.reserve(room)?;
+        let room = offsets.len() + (self.left - self.runs.list.as_slice().len());
+        self.runs.list.reserve(room)?;
         for offset in offsets {
             self.poll(*offset);
         }
@@ -119,7 +117,7 @@ impl PartitionState {
         ensures least { result
             ≡ unwrap_or (least_of self.now.window.incomplete) self.now.window.after }
     {
-        match self.runs.as_slice().first() {
+        match self.runs.list.as_slice().first() {
             Some(run) => run.0,
             None => self.after,
         }
@@ -130,7 +128,7 @@ impl PartitionState {
         ensures { (begin n : ℕ) (marks : List Mark) → StandsFor self.now.window begin n marks
             → result ≡ high_at marks }
     {
-        self.high
+        self.runs.high
     }
 
     /// Whether a known offset is complete, by a binary search.
@@ -140,7 +138,7 @@ impl PartitionState {
             → result ≡ not (list_any (λ o. o == offset) (incomplete_offsets marks)) }
         ensures value { result ≡ not (list_any (λ o. o == offset) self.now.window.incomplete) }
     {
-        !runs::contains(self.runs.as_slice(), offset)
+        !runs::contains(self.runs.list.as_slice(), offset)
     }
 
     /// How many polled offsets are incomplete.
@@ -158,26 +156,26 @@ impl PartitionState {
             → StandsFor self.now.window begin n marks → bits ≡ some_bits (bits_at begin marks)) }
     {
         let position = self.position();
-        match self.high {
+        match self.runs.high {
             Some(high) if position <= high => {
-                let alloc = *self.runs.allocator();
-                let bits = runs::bits_upto(alloc, self.runs.as_slice(), position, high)?;
+                let alloc = *self.runs.list.allocator();
+                let bits = runs::bits_upto(alloc, self.runs.list.as_slice(), position, high)?;
                 Ok(Some(bits))
             }
             _ => Ok(None),
         }
     }
 
-    /// The lengths of the encodings of the bits, without the letter. None where there are no bits.
-    /// Takes no memory.
+    /// The lengths of the encodings of the bits, without the letter, by the numbers that are kept.
+    /// None where there are no bits. Takes no memory.
     pub fn lengths(&self) -> Option<Lengths>
         ensures { (begin n : ℕ) (marks : List Mark) → StandsFor self.now.window begin n marks
             → result ≡ option_map lengths_of (some_bits (bits_at begin marks)) }
     {
         let position = self.position();
-        match self.high {
+        match self.runs.high {
             Some(high) if position <= high => {
-                Some(lengths::of_runs(self.runs.as_slice(), position, high))
+                Some(lengths::of_counts(high + 1 - position, &self.runs.counts))
             }
             _ => None,
         }
@@ -192,9 +190,9 @@ impl PartitionState {
         ensures room { self.old.room ≤ self.new.room + 1 }
     {
         if is_complete {
-            self.high = Some(offset);
+            self.runs.complete_above(offset);
         } else {
-            runs::append(&mut self.runs, offset);
+            runs::append(&mut self.runs.list, offset);
             self.left += 1;
         }
         self.after = offset + 1;
@@ -212,11 +210,11 @@ impl PartitionState {
         ensures room { self.old.room ≤ self.new.room + 1 }
     {
         if offset >= self.after {
-            runs::append(&mut self.runs, offset);
+            runs::append(&mut self.runs.list, offset);
             self.left += 1;
             self.pending += 1;
             self.after = offset + 1;
-        } else if runs::contains(self.runs.as_slice(), offset) {
+        } else if runs::contains(self.runs.list.as_slice(), offset) {
             self.pending += 1;
         }
         self.polled_to = offset + 1;
@@ -227,21 +225,10 @@ impl PartitionState {
         requires { list_any (λ o. o == offset) self.old.window.incomplete ≡ true }
         ensures { self.new.window ≡ succeed_window offset self.old.window }
     {
-        runs::take_out(&mut self.runs, offset);
+        self.runs.complete(offset);
         self.left -= 1;
         if offset < self.polled_to {
             self.pending -= 1;
         }
-        self.high = Some(greatest(self.high, offset));
-    }
-}
-
-/// The greatest of the offset and of another, if there is one.
-fn greatest(other: Option<u64>, offset: u64) -> u64
-    ensures { result ≡ option_map_or (max offset) other offset }
-{
-    match other {
-        Some(other) => offset.max(other),
-        None => offset,
     }
 }

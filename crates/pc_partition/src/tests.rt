@@ -1,6 +1,10 @@
 //! What no clause says: that memory is found.
 
+ghost use Rattle.std.specs.Prelude.{◌≡◌, map, true};
+ghost use Rattle.pc_partition.specs.Window.{RisesFrom};
+
 use crate::{Lengths, PartitionState};
+use std::alloc::{AllocError, Global};
 use std::test::Fail;
 
 // Three records, of which the second succeeds first.
@@ -63,5 +67,167 @@ fn lengths_of_a_long_run(rt: HostRuntime) -> Result<(), Fail> {
         runlength2: Some(8),
     };
     assert_eq!(rt; state.lengths(), Some(lengths));
+    Ok(())
+}
+
+// Whether the offsets rise from 0 on.
+fn rise(pairs: &[(u64, bool)]) -> bool
+    ensures { result ≡ true → RisesFrom 0 (map (λ pair. pair.0) pairs.now) }
+{
+    let mut least = 0;
+    for (offset, _) in pairs {
+        if *offset < least || *offset >= (1 << 63) - 1 {
+            return false;
+        }
+        least = offset + 1;
+    }
+    true
+}
+
+fn started(alloc: Global, pairs: &[(u64, bool)]) -> Result<PartitionState, AllocError> {
+    if rise(pairs) {
+        PartitionState::start(alloc, 0, pairs)
+    } else {
+        PartitionState::start(alloc, 0, &[])
+    }
+}
+
+// The length as runs of version 1, where there are bits.
+fn runlength(state: &PartitionState) -> Option<Option<u64>> {
+    state.lengths().map(|lengths| lengths.runlength)
+}
+
+/// Whether a run of one 0 bit stands before, how many 0 bits follow, whether a run of one stands
+/// behind, and the length.
+const ZEROS: [(bool, u16, bool, Option<u64>); 6] = [
+    (false, 32_767, true, Some(8)),
+    (false, 32_768, true, None),
+    (true, 32_767, true, Some(12)),
+    (true, 32_768, true, None),
+    (true, 32_767, false, Some(8)),
+    (true, 32_768, false, None),
+];
+
+#[test]
+fn a_run_of_zeros_is_long(rt: HostRuntime) -> Result<(), Fail> {
+    for (before, count, after, wanted) in ZEROS {
+        let end = 2 + u64::from(count);
+        let mut pairs = Vec::new(rt.alloc());
+        if before {
+            pairs.push((0, false))?;
+        }
+        for offset in 2..end {
+            pairs.push((offset, false))?;
+        }
+        if after {
+            pairs.push((end + 1, false))?;
+        }
+        pairs.push((end + 2, true))?;
+        let state = started(rt.alloc(), pairs.as_slice())?;
+        assert_eq!(rt;
+            runlength(&state),
+            Some(wanted),
+            "at {before} {count} {after}"
+        );
+    }
+    Ok(())
+}
+
+/// Offsets with whether each is complete, the length, and the length after a success.
+const SUCCESSES: [([(u64, bool); 4], Option<u64>, u64, Option<u64>); 10] = [
+    // The first run vanishes with the 1 bits behind it.
+    (
+        [(0, false), (32_768, false), (32_770, false), (32_771, true)],
+        Some(12),
+        0,
+        Some(8),
+    ),
+    (
+        [(0, false), (32_769, false), (32_771, false), (32_772, true)],
+        None,
+        0,
+        Some(8),
+    ),
+    // One in the middle joins the 1 bits beside it.
+    (
+        [(0, false), (16_384, false), (32_768, false), (32_769, true)],
+        Some(12),
+        16_384,
+        Some(8),
+    ),
+    (
+        [(0, false), (16_384, false), (32_769, false), (32_770, true)],
+        Some(12),
+        16_384,
+        None,
+    ),
+    // So does the last one.
+    (
+        [(0, false), (2, false), (4, false), (32_770, true)],
+        Some(12),
+        4,
+        None,
+    ),
+    (
+        [(0, false), (2, false), (4, false), (32_769, true)],
+        Some(12),
+        4,
+        Some(8),
+    ),
+    // A greater offset succeeds than all before.
+    (
+        [(0, false), (1, true), (3, false), (32_771, false)],
+        Some(4),
+        32_771,
+        None,
+    ),
+    (
+        [(0, false), (1, true), (3, false), (32_770, false)],
+        Some(4),
+        32_770,
+        Some(8),
+    ),
+    (
+        [(0, false), (1, true), (32_768, false), (32_769, false)],
+        Some(4),
+        32_769,
+        Some(8),
+    ),
+    (
+        [(0, false), (1, true), (32_769, false), (32_770, false)],
+        Some(4),
+        32_770,
+        None,
+    ),
+];
+
+#[test]
+fn a_success_changes_the_lengths(rt: HostRuntime) -> Result<(), Fail> {
+    for (pairs, before, offset, after) in SUCCESSES {
+        let mut state = started(rt.alloc(), &pairs)?;
+        assert_eq!(rt; runlength(&state), Some(before), "before {offset}");
+        if state.is_complete(offset) {
+            panic!(rt; "{offset} is complete");
+        }
+        state.succeed(offset);
+        assert_eq!(rt; runlength(&state), Some(after), "after {offset}");
+    }
+    Ok(())
+}
+
+// A run of 40,000 0 bits is cut.
+#[test]
+fn a_long_run_is_cut(rt: HostRuntime) -> Result<(), Fail> {
+    let mut pairs = Vec::new(rt.alloc());
+    for offset in 0..40_000 {
+        pairs.push((offset, false))?;
+    }
+    pairs.push((40_000, true))?;
+    let mut state = started(rt.alloc(), pairs.as_slice())?;
+    assert_eq!(rt; runlength(&state), Some(None));
+    if !state.is_complete(20_000) {
+        state.succeed(20_000);
+    }
+    assert_eq!(rt; runlength(&state), Some(Some(8)));
     Ok(())
 }

@@ -62,3 +62,23 @@ pub returns-in-Ok-clause-in_order : goal.returns-in-Ok-clause-in_order
 returns-in-Ok-clause-in_order c = (cut-middle _ _ _ c.index.result.now c.requires.in_order c.requires.at
     c.index.ensures _ c.if-before-eq0-2.false
     c.if-after-eq0-2.false c.in-Ok.ensures.items).in_order
+
+pub returns-then-after-eq0-clause-place : goal.returns-then-after-eq0-clause-place
+returns-then-after-eq0-clause-place c = (cut-none _ _ _ c.index.result.now c.requires.in_order
+    c.requires.at c.index.ensures _ c.if-before-eq0.true c.if-after-eq0.true c.remove.ensures.items).place
+
+pub returns-then-before-eq0-2-clause-place : goal.returns-then-before-eq0-2-clause-place
+returns-then-before-eq0-2-clause-place c = (cut-first _ _ _ c.index.result.now c.requires.in_order c.requires.at
+    c.index.ensures _ c.if-before-eq0-2.true
+    (elim c.else-before-eq0.either [ inl some ↦ some.1 | inr some ↦ absurd (some c.if-before-eq0-2.true) ])
+    refl).place
+
+pub returns-then-after-eq0-2-clause-place : goal.returns-then-after-eq0-2-clause-place
+returns-then-after-eq0-2-clause-place c = (cut-last _ _ _ c.index.result.now c.requires.in_order c.requires.at
+    c.index.ensures _ c.if-before-eq0-2.false
+    c.if-after-eq0-2.true refl).place
+
+pub returns-in-Ok-clause-place : goal.returns-in-Ok-clause-place
+returns-in-Ok-clause-place c = (cut-middle _ _ _ c.index.result.now c.requires.in_order c.requires.at
+    c.index.ensures _ c.if-before-eq0-2.false
+    c.if-after-eq0-2.false c.in-Ok.ensures.items).place

@@ -9,7 +9,7 @@ use Rattle.pc_partition.proofs.state.PartitionState.bits.Goals.{in_default-via-i
 
 pub bits_upto-requires-clause-in_order : goal.bits_upto-requires-clause-in_order
 bits_upto-requires-clause-in_order c = rw c.as_slice.ensures.value
-    (AreRuns-position c.self.inside.after c.self.inside.runs.items c.position-position.result
+    (AreRuns-position c.self.inside.after c.self.inside.runs.list.items c.position-position.result
     c.self.invariant.in_order c.self.invariant.small
     (rw (← c.self.view_is) at c.position-position.ensures.least))
 

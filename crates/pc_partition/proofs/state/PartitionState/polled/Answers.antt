@@ -6,7 +6,7 @@ use Rattle.pc_partition.proofs.state.PartitionState.polled.Goals as goal
 
 pub overflow_sub-room : goal.overflow_sub-room
 overflow_sub-room c = rw c.as_slice.ensures.value
-    (let few = length-runs 0 c.self.inside.after c.self.inside.runs.items c.self.invariant.in_order in
+    (let few = length-runs 0 c.self.inside.after c.self.inside.runs.list.items c.self.invariant.in_order in
     omega (arith, few, c.self.invariant.left_is))
 
 pub returns-clause-polled : goal.returns-clause-polled

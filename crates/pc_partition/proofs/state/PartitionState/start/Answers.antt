@@ -5,14 +5,14 @@ use Rattle.pc_partition.proofs.WindowLemmas.{IsInherited-one, StandsFor-start, b
 use Rattle.pc_partition.proofs.state.PartitionState.start.Goals as goal
 
 pub invariant_of-state : goal.invariant_of-state
-invariant_of-state c = rw c.in_ok-with_capacity.ensures.items
+invariant_of-state c = rw (c.in_ok-with_capacity.ensures.runs, c.in_ok-with_capacity.ensures.high, c.in_ok-with_capacity.ensures.counts)
     (IsState-start c.args.begin _ (begin-small c.args.begin _ c.requires))
 
 pub loop-offset-init : goal.loop-offset-init
 loop-offset-init c = record {
-  stands = rw c.in_ok-with_capacity.ensures.items (StandsFor-start c.args.begin (begin-small c.args.begin _ c.requires));
+  stands = rw (c.in_ok-with_capacity.ensures.runs, c.in_ok-with_capacity.ensures.high) (StandsFor-start c.args.begin (begin-small c.args.begin _ c.requires));
   rises = c.requires;
-  room = let exact = c.in_ok-with_capacity.ensures.exact in omega (arith, exact);
+  room = let exact = c.in_ok-with_capacity.ensures.room in omega (arith, exact);
 }
 
 pub loop-offset-preserved : goal.loop-offset-preserved

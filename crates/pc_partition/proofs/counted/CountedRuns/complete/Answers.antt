@@ -1,0 +1,70 @@
+-- The runs up to high before and after have all in common but those beside the offset, or those that high passes.
+use Rattle.std.proofs.Common.{ℕ, ◌-◌, ◌^◌, List, ap, refl, subst, ◌∙◌, arith}
+use Rattle.pc_partition.specs.Runs.{IsCut}
+use Rattle.pc_partition.proofs.CountedLemmas.{HasPart-new, HasPart-old, IsAnew-next, IsNext-cut, IsPassed, counts-anew}
+use Rattle.pc_partition.proofs.counted.CountedRuns.complete.Goals as goal
+
+pub part-old-requires : goal.part-old-requires
+part-old-requires c = HasPart-old _ _ c.args.self.now.list.items c.args.self.now.high c.args.self.now.counts c.requires.counted
+    (omega (arith, c.saturating_sub-first.ensures, c.saturating_sub-behind.ensures, c.min.ensures))
+
+pub part-new-requires : goal.part-new-requires
+part-new-requires c =
+    let next = IsNext-cut c.saturating_sub-first.result c.saturating_sub-behind.result c.args.self.now.list.items c.cut.new.runs.items
+    c.args.self.now.high c.args.self.now.counts c.place_of-at.result c.args.offset c.greatest.result c.requires.counted
+    (subst (λ (l : List (ℕ × ℕ)). IsCut l c.place_of-at.result c.args.offset) c.as_slice.ensures.value c.place_of-at.ensures)
+    c.cut.ensures.place c.cut.ensures.taken (c.cut.ensures.in_order 0 (2 ^ 63) c.requires.counted.in_order) c.greatest.ensures
+    (c.saturating_sub-first.ensures ∙ ap (λ n. n - 1) c.min.ensures) c.saturating_sub-behind.ensures in
+    let passed : IsPassed c.greatest.result c.cut.new.runs.items c.args.self.now.counts c.pass.new.self.high c.pass.new.self.list.items
+    c.pass.new.self.counts = record {
+      high = c.pass.ensures.high;
+      list = rw c.pass.ensures.list refl;
+      runs = c.pass.ensures.runs;
+      few = c.pass.ensures.few;
+      long = c.pass.ensures.long;
+      long_2 = c.pass.ensures.long_2;
+    } in
+    HasPart-new _ _ _ _ _ _ c.args.self.now.counts c.pass.new.self.high c.pass.new.self.list.items c.pass.new.self.counts next passed
+
+pub replace-requires : goal.replace-requires
+replace-requires c =
+    let next = IsNext-cut c.saturating_sub-first.result c.saturating_sub-behind.result c.args.self.now.list.items c.cut.new.runs.items
+    c.args.self.now.high c.args.self.now.counts c.place_of-at.result c.args.offset c.greatest.result c.requires.counted
+    (subst (λ (l : List (ℕ × ℕ)). IsCut l c.place_of-at.result c.args.offset) c.as_slice.ensures.value c.place_of-at.ensures)
+    c.cut.ensures.place c.cut.ensures.taken (c.cut.ensures.in_order 0 (2 ^ 63) c.requires.counted.in_order) c.greatest.ensures
+    (c.saturating_sub-first.ensures ∙ ap (λ n. n - 1) c.min.ensures) c.saturating_sub-behind.ensures in
+    let passed : IsPassed c.greatest.result c.cut.new.runs.items c.args.self.now.counts c.pass.new.self.high c.pass.new.self.list.items
+    c.pass.new.self.counts = record {
+      high = c.pass.ensures.high;
+      list = rw c.pass.ensures.list refl;
+      runs = c.pass.ensures.runs;
+      few = c.pass.ensures.few;
+      long = c.pass.ensures.long;
+      long_2 = c.pass.ensures.long_2;
+    } in
+    let anew = IsAnew-next c.saturating_sub-first.result c.saturating_sub-behind.result c.greatest.result c.args.self.now.high
+    c.args.self.now.list.items c.cut.new.runs.items c.args.self.now.counts c.part-old.result c.part-new.result c.pass.new.self.high
+    c.pass.new.self.list.items c.pass.new.self.counts next passed c.requires.counted.counted.are c.part-old.ensures c.part-new.ensures in
+    record { long = anew.long.gives; long_2 = anew.long_2.gives }
+
+pub returns-clause-counts : goal.returns-clause-counts
+returns-clause-counts c =
+    let next = IsNext-cut c.saturating_sub-first.result c.saturating_sub-behind.result c.args.self.now.list.items c.cut.new.runs.items
+    c.args.self.now.high c.args.self.now.counts c.place_of-at.result c.args.offset c.greatest.result c.requires.counted
+    (subst (λ (l : List (ℕ × ℕ)). IsCut l c.place_of-at.result c.args.offset) c.as_slice.ensures.value c.place_of-at.ensures)
+    c.cut.ensures.place c.cut.ensures.taken (c.cut.ensures.in_order 0 (2 ^ 63) c.requires.counted.in_order) c.greatest.ensures
+    (c.saturating_sub-first.ensures ∙ ap (λ n. n - 1) c.min.ensures) c.saturating_sub-behind.ensures in
+    let passed : IsPassed c.greatest.result c.cut.new.runs.items c.args.self.now.counts c.pass.new.self.high c.pass.new.self.list.items
+    c.pass.new.self.counts = record {
+      high = c.pass.ensures.high;
+      list = rw c.pass.ensures.list refl;
+      runs = c.pass.ensures.runs;
+      few = c.pass.ensures.few;
+      long = c.pass.ensures.long;
+      long_2 = c.pass.ensures.long_2;
+    } in
+    let anew = IsAnew-next c.saturating_sub-first.result c.saturating_sub-behind.result c.greatest.result c.args.self.now.high
+    c.args.self.now.list.items c.cut.new.runs.items c.args.self.now.counts c.part-old.result c.part-new.result c.pass.new.self.high
+    c.pass.new.self.list.items c.pass.new.self.counts next passed c.requires.counted.counted.are c.part-old.ensures c.part-new.ensures in
+    counts-anew _ _ c.args.self.now.counts c.part-old.result c.part-new.result _ _ c.pass.new.self.counts c.replace.new.self passed anew
+    c.replace.ensures.runs c.replace.ensures.long c.replace.ensures.long_2
