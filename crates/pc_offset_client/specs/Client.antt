@@ -1,5 +1,5 @@
 -- What the client asks, and what a reply answers.
-use Rattle.std.specs.Prelude.{ℕ, ◌^◌, ◌<◌, ◌≡◌, ◌⊎◌, ℤ, pos, true, false, if◌then◌else◌, int_lt, unsigned_abs, List, [], ◌∷◌, length, bytes_eq, Option, Some, None, unwrap_or, Result, Ok, Err, codes, ⊤}
+use Rattle.std.specs.Prelude.{ℕ, ◌-◌, ◌^◌, ◌<◌, ◌≡◌, ◌⊎◌, ℤ, pos, true, false, if◌then◌else◌, int_lt, unsigned_abs, List, [], ◌∷◌, length, min, bytes_eq, Option, Some, None, unwrap_or, Result, Ok, Err, codes, ⊤}
 use Rattle.std.proofs.Common.{negsuc}
 use Rattle.std.specs.Ordering.{int_eq}
 use Rattle.pc_model.specs.declared.commit.Commit.{Commit}
@@ -7,6 +7,7 @@ use Rattle.pc_model.specs.declared.api.TheConstants.{NO_ERROR, UNKNOWN_TOPIC_OR_
 use Rattle.pc_model.specs.declared.wire_fault.WireFault.{WireFault}
 use Rattle.pc_model.specs.Given.{no_commit}
 use Rattle.pc_model.specs.Messages.{Topic, CommitItem, CommitRequest, CommitCode, CommitReply, FetchRequest, FetchEntry, FetchReply}
+use Rattle.pc_model.specs.MessageReading.{commit_reply_reading, fetch_reply_reading}
 use Rattle.pc_model.specs.Broker.{Broker, has_part, item_code, metadata_text, stored_for, with_stored}
 use Rattle.pc_offset_client.specs.declared.fault.ClientFault.{ClientFault}
 use Rattle.pc_offset_client.specs.declared.fault.ClientFault.TheVariants.{LinkFailed, Refused, BadReply, OtherReply, NoMemory}
@@ -36,9 +37,9 @@ abbrev pub item_of : ℕ → Commit → CommitItem
 item_of part c = record { part = pos part; position = pos c.position; metadata = Some c.map }
 
 -- the request that a commit of the part be stored
-abbrev pub commit_question : ℕ → ℕ → Commit → CommitRequest
+abbrev pub commit_question : ℤ → ℕ → Commit → CommitRequest
 commit_question id part c = record {
-  correlation = pos id;
+  correlation = id;
   client = Some CLIENT;
   group = GROUP;
   generation = negsuc 0;
@@ -48,9 +49,9 @@ commit_question id part c = record {
 }
 
 -- the request for what is stored for the part
-abbrev pub fetch_question : ℕ → ℕ → FetchRequest
+abbrev pub fetch_question : ℤ → ℕ → FetchRequest
 fetch_question id part = record {
-  correlation = pos id;
+  correlation = id;
   client = Some CLIENT;
   group = GROUP;
   topics = one_part (pos part);
@@ -58,60 +59,76 @@ fetch_question id part = record {
 
 -- ---- what a reply answers
 
--- the item of the part that was asked for, of items that are to be that one
-abbrev pub only_item : {A : Type 0} → (A → ℤ) → ℕ → List A → Result A ClientFault
-only_item part_of part (item ∷ []) = if int_eq (pos part) (part_of item) then Ok item
-    else Err (OtherReply (pos part) (part_of item))
-only_item part_of part items = Err (OtherReply (pos 1) (pos (length items)))
+infixl 10 ◌>>=◌
+-- what is found, and then the next by that
+abbrev pub ◌>>=◌ : {A B : Type 0} → Result A ClientFault → (A → Result B ClientFault) → Result B ClientFault
+(Ok x) >>= f = f x
+(Err fault) >>= f = Err fault
 
--- the same of topics that are to be that one
-abbrev pub only_topic : {A : Type 0} → (A → ℤ) → ℕ → List (Topic A) → Result A ClientFault
-only_topic part_of part (topic ∷ []) = if bytes_eq topic.name TOPIC
-    then only_item part_of part topic.items else Err (OtherReply (pos 0) (pos 1))
-only_topic part_of part topics = Err (OtherReply (pos 1) (pos (length topics)))
+-- two numbers that have to be the same
+abbrev pub same : ℤ → ℤ → Result (Unit {0}) ClientFault
+same asked got = if int_eq asked got then Ok tt else Err (OtherReply asked got)
 
--- the item of a reply to the question of this id, or the first pair of numbers that differs
-abbrev pub item_in : {A : Type 0} → (A → ℤ) → ℤ → ℕ → ℤ → List (Topic A) → Result A ClientFault
-item_in part_of id part correlation topics = if int_eq id correlation
-    then only_topic part_of part topics else Err (OtherReply id correlation)
+-- the only item, or how many there are; no frame has more than 2^31 - 1
+abbrev pub only_one : {A : Type 0} → List A → Result A ClientFault
+only_one (item ∷ []) = Ok item
+only_one items = Err (OtherReply (pos 1) (pos (min (length items) (2 ^ 31 - 1))))
 
--- the value of an item that has no code but 0
-abbrev pub answer_by : {A B : Type 0} → (A → ℤ) → (A → B) → Result A ClientFault
-    → Result B ClientFault
-answer_by code_of value_of (Ok item) = if int_eq (code_of item) NO_ERROR then Ok (value_of item)
-    else Err (Refused (code_of item))
-answer_by code_of value_of (Err fault) = Err fault
+-- a topic's name, which has to be the client's
+abbrev pub same_topic : List ℕ → Result (Unit {0}) ClientFault
+same_topic name = if bytes_eq name TOPIC then Ok tt else Err (OtherReply (pos 0) (pos 1))
 
--- what a reply says of the commit of the part
-abbrev pub commit_answer : ℤ → ℕ → Result CommitReply WireFault → Result (Unit {0}) ClientFault
-commit_answer id part (Ok reply) = answer_by (λ item. item.code) (λ item. tt)
-    (item_in (λ item. item.part) id part reply.correlation reply.topics)
-commit_answer id part (Err fault) = Err (BadReply fault)
+-- the only item of the only topic
+unfoldable pub only_item : {A : Type 0} → List (Topic A) → Result A ClientFault
+only_item topics = do
+  topic ← only_one topics
+  named ← same_topic topic.name
+  only_one topic.items
+
+-- a code that has to be 0
+abbrev pub accepted : ℤ → Result (Unit {0}) ClientFault
+accepted code = if int_eq code NO_ERROR then Ok tt else Err (Refused code)
+
+-- a reply, if it reads
+abbrev pub reply_of : {A : Type 0} → Result A WireFault → Result A ClientFault
+reply_of (Ok reply) = Ok reply
+reply_of (Err fault) = Err (BadReply fault)
+
+-- what the bytes of a reply say of the commit of the part
+unfoldable pub commit_answer : ℤ → ℕ → List ℕ → Result (Unit {0}) ClientFault
+commit_answer id part bytes = do
+  reply ← reply_of (commit_reply_reading bytes)
+  a ← same id reply.correlation
+  item ← only_item reply.topics
+  b ← same (pos part) item.part
+  accepted item.code
 
 -- the commit of an entry: the position -1 says that nothing is stored
 abbrev pub entry_commit : FetchEntry → Commit
 entry_commit entry = if int_lt entry.position (pos 0) then no_commit
     else record { position = unsigned_abs entry.position; map = metadata_text entry.metadata }
 
--- what a reply says is stored for the part
-abbrev pub fetch_answer : ℤ → ℕ → Result FetchReply WireFault → Result Commit ClientFault
-fetch_answer id part (Ok reply) = answer_by (λ item. item.1.code) (λ item. entry_commit item.1)
-    (item_in (λ item. item.0) id part reply.correlation reply.topics)
-fetch_answer id part (Err fault) = Err (BadReply fault)
+-- what the bytes of a reply say is stored for the part
+unfoldable pub fetch_answer : ℤ → ℕ → List ℕ → Result Commit ClientFault
+fetch_answer id part bytes = do
+  reply ← reply_of (fetch_reply_reading bytes)
+  a ← same id reply.correlation
+  item ← only_item reply.topics
+  b ← same (pos part) item.0
+  c ← accepted item.1.code
+  Ok (entry_commit item.1)
 
 -- The answer is that of some reply, unless the link failed or memory ran out.
-abbrev pub IsAnswer : {A B : Type 0} → (List ℕ → Result A ClientFault) → (B → A)
-    → Result B ClientFault → Type 0
-IsAnswer answer view (Err LinkFailed) = ⊤
-IsAnswer answer view (Err NoMemory) = ⊤
-IsAnswer answer view (Err fault) = (reply : List ℕ) × (answer reply ≡ Err fault)
-IsAnswer answer view (Ok x) = (reply : List ℕ) × (answer reply ≡ Ok (view x))
+abbrev pub IsAnswer : {A : Type 0} → (List ℕ → Result A ClientFault) → Result A ClientFault → Type 0
+IsAnswer answer (Err LinkFailed) = ⊤
+IsAnswer answer (Err NoMemory) = ⊤
+IsAnswer answer result = (reply : List ℕ) × (answer reply ≡ result)
 
 -- ---- what a broker answers that tells what it stores
 
 -- the code of a commit of the part
 abbrev pub commit_code : Broker → ℕ → Commit → ℤ
-commit_code b part c = item_code b (commit_question 0 part c) TOPIC (item_of part c)
+commit_code b part c = item_code b (commit_question (pos 0) part c) TOPIC (item_of part c)
 
 -- the broker with that commit
 abbrev pub with_commit : Broker → ℕ → Commit → Broker

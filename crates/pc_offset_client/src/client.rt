@@ -1,30 +1,19 @@
 //! The client: clauses see its link and the id of its next frame.
 
-ghost use Rattle.std.specs.Prelude.{◌≡◌, ◌≤◌, ◌<◌, ◌^◌, pos, true, Err, IfOk, length};
-ghost use Rattle.pc_model.specs.MessageReading.{commit_reply_reading, fetch_reply_reading};
-ghost use Rattle.pc_world.specs.World.{HasRisen};
+ghost use Rattle.std.specs.Prelude.{◌≡◌, ◌≤◌, ◌<◌, ◌^◌, ◌⊎◌, pos, true, Ok, Err, IfErr, IfOk, IsOk, OnOk, int_lt, length};
+ghost use Rattle.pc_model.specs.Broker.{broker_step, request_reading};
+ghost use Rattle.pc_world.specs.declared.link.TheConstants.{FRAME_BYTES_MAX};
+ghost use Rattle.pc_world.specs.World.{AreStorable, HasRisen, MayStore};
 ghost use Rattle.pc_offset_client.specs.Client.{CommitGives, FetchGives, IsAnswer, IsFrameCommit, commit_answer, fetch_answer};
-ghost use Rattle.pc_offset_client.specs.declared.fault.ClientFault.TheVariants.{LinkFailed};
+ghost use Rattle.pc_offset_client.specs.declared.fault.ClientFault.TheVariants.{LinkFailed, NoMemory};
 
+use crate::answer;
 use crate::fault::ClientFault;
+use crate::question;
 use pc_model::Commit;
-use pc_world::Link;
+use pc_world::{Link, LinkFault};
 use std::alloc::Global;
 use std::marker::Model;
-
-/// The id that the client's frames have.
-pub const CLIENT: &str = "pc";
-
-/// The group whose commits these are.
-pub const GROUP: &str = "parcon";
-
-/// The topic of all parts.
-pub const TOPIC: &str = "log";
-
-// What stands where there is no generation, and where nothing is said of the retention.
-const NO_GENERATION: i32 = -1;
-const NO_RETENTION: i64 = -1;
-const NO_MEMBER: &str = "";
 
 /// A client over a link. Its frames have the correlation ids 1, 2, 3 and so on up to 2^31 - 1, and
 /// then 1 again.
@@ -89,15 +78,16 @@ impl<L: Link> Client<L> {
         requires map { length commit.now.map < 2 ^ 15 }
         ensures gives { L.is_told self.old.link ≡ true → CommitGives (L.store self.old.link)
             (L.store self.new.link) part commit.now result }
-        ensures answer { IsAnswer
-            (λ reply. commit_answer self.old.next part (commit_reply_reading reply))
-            (λ done. done) result }
+        ensures answer { IsAnswer (commit_answer self.old.next part) result }
         ensures cause { result ≡ Err LinkFailed → HasRisen (L.faults self.old.link)
             (L.faults self.new.link) }
         ensures told { L.is_told self.new.link ≡ L.is_told self.old.link }
         ensures count { L.faults self.old.link ≤ L.faults self.new.link }
     {
-        Err(ClientFault::NoMemory)
+        let id = self.next;
+        let frame = question::commit_frame(self.alloc, id, part, commit)?;
+        let reply = self.send(frame.as_slice())?;
+        answer::of_commit(id, part, reply.as_slice())
     }
 
     /// The commit that the broker stores for the part: position 0 without a map where it stores
@@ -109,14 +99,49 @@ impl<L: Link> Client<L> {
         ensures small { IfOk result IsFrameCommit }
         ensures keeps { L.is_told self.old.link ≡ true
             → L.store self.new.link ≡ L.store self.old.link }
-        ensures answer { IsAnswer
-            (λ reply. fetch_answer self.old.next part (fetch_reply_reading reply))
-            (λ commit. commit) result }
+        ensures answer { IsAnswer (fetch_answer self.old.next part) result }
         ensures cause { result ≡ Err LinkFailed → HasRisen (L.faults self.old.link)
             (L.faults self.new.link) }
         ensures told { L.is_told self.new.link ≡ L.is_told self.old.link }
         ensures count { L.faults self.old.link ≤ L.faults self.new.link }
     {
-        Err(ClientFault::NoMemory)
+        let id = self.next;
+        let frame = question::fetch_frame(self.alloc, id, part)?;
+        let reply = self.send(frame.as_slice())?;
+        answer::of_fetch(self.alloc, id, part, reply.as_slice())
     }
+
+    /// Sends the frame that was written with the next id.
+    fn send(&mut self, frame: &[u8]) -> Result<Vec<u8>, ClientFault>
+        requires short { length frame.now ≤ FRAME_BYTES_MAX }
+        requires reads { IsOk (request_reading frame.now) }
+        ensures answered { L.is_told self.old.link ≡ true → IfOk result (λ reply. broker_step
+            (L.store self.old.link) frame.now ≡ Ok (reply.items, L.store self.new.link)) }
+        ensures storable { L.is_told self.old.link ≡ true
+            → OnOk result (AreStorable (L.store self.old.link)) }
+        ensures failed { result ≡ Err LinkFailed → HasRisen (L.faults self.old.link)
+            (L.faults self.new.link) }
+        ensures may_store { L.is_told self.old.link ≡ true → result ≡ Err LinkFailed → MayStore
+            (request_reading frame.now) (L.store self.old.link) (L.store self.new.link) }
+        ensures no_memory { L.is_told self.old.link ≡ true → result ≡ Err NoMemory
+            → L.store self.new.link ≡ L.store self.old.link }
+        ensures fault { IfErr result (λ e. (e ≡ LinkFailed) ⊎ (e ≡ NoMemory)) }
+        ensures told { L.is_told self.new.link ≡ L.is_told self.old.link }
+        ensures count { L.faults self.old.link ≤ L.faults self.new.link }
+    {
+        self.next = after(self.next);
+        match self.link.call(frame) {
+            Ok(reply) => Ok(reply),
+            Err(LinkFault::Failed) => Err(ClientFault::LinkFailed),
+            Err(LinkFault::NoMemory) => Err(ClientFault::NoMemory),
+        }
+    }
+}
+
+/// The id after one.
+fn after(id: i32) -> i32
+    requires { int_lt (pos 0) id ≡ true }
+    ensures { int_lt (pos 0) result ≡ true }
+{
+    id.checked_add(1).unwrap_or(1)
 }

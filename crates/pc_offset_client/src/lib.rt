@@ -2,8 +2,11 @@
 //! one frame over a link.
 #![tactic(auto)]
 
+mod answer;
 mod client;
 mod fault;
+mod question;
 
-pub use client::{CLIENT, Client, GROUP, TOPIC};
+pub use client::Client;
 pub use fault::ClientFault;
+pub use question::{CLIENT, GROUP, TOPIC};
