@@ -1,18 +1,19 @@
 -- The four messages: a frame is read as a message exactly where the message's grammar has it.
-use Rattle.std.proofs.Common.{◌≡◌, ℕ, ◌+◌, ◌<◌, ◌≤◌, ◌^◌, ◌==◌, ℤ, pos, negsuc, Bool, true, false, cond, ltb, eqb, List, [], ◌∷◌, ◌++◌, length, Option, Result, Ok, Err, refl, sym, ap, subst, ◌∙◌, arith}
-use Rattle.std.specs.Prelude.{FitsSigned}
+use Rattle.std.proofs.Common.{◌≡◌, ℕ, ◌<◌, ◌≤◌, ◌^◌, ℤ, pos, Bool, true, false, cond, ltb, eqb, List, [], ◌++◌, length, Option, Result, Ok, Err, refl, sym, ap, subst, ◌∙◌, arith}
+use Rattle.std.specs.Prelude.{FitsSigned, IfOk, IsOkAnd}
 use Rattle.std.specs.Int.{w16, w32, w64}
 use Rattle.std.proofs.lemmas.Bool.{ltb-false, le-ltb, eqb-true}
 use Rattle.std.proofs.lemmas.List.{append-nil, nil_from_length}
 use Rattle.pc_model.specs.declared.api.TheConstants.{OFFSET_COMMIT, OFFSET_COMMIT_VERSION, OFFSET_FETCH, OFFSET_FETCH_VERSION}
 use Rattle.pc_model.specs.declared.wire_fault.WireFault.{WireFault}
 use Rattle.pc_model.specs.declared.wire_fault.WireFault.TheVariants.{Short, Trailing, BadKey, BadVersion}
-use Rattle.pc_model.specs.Messages.{CommitRequest, CommitReply, FetchRequest, FetchReply, IsNullable, IsString, AreTopics, IsCommitItem, IsCommitCode, IsPart, IsEntry, IsFrame, IsCommitRequest, IsCommitReply, IsFetchRequest, IsFetchReply, int_spelling, header_spelling, frame_spelling, commit_item_spelling, commit_code_spelling, part_spelling, entry_spelling, commit_request_body, commit_reply_body, fetch_request_body, fetch_reply_body}
-use Rattle.pc_model.specs.MessageReading.{◌>>=◌, size_at, body_at, whole, header_at, topics_at, commit_item_at, commit_code_at, part_id_at, entry_at, commit_request_at, commit_reply_at, fetch_request_at, fetch_reply_at, frame_reading, commit_request_reading, commit_reply_reading, fetch_request_reading, fetch_reply_reading}
-use Rattle.pc_model.specs.Broker.{Request, Commits, Fetches, is_fetch, request_reading}
+use Rattle.pc_model.specs.Messages.{CommitRequest, CommitReply, FetchRequest, FetchReply, IsNullable, IsCommitItem, IsCommitCode, IsPart, IsEntry, IsFrame, IsCommitRequest, IsCommitReply, IsFetchRequest, IsFetchReply, int_spelling, header_spelling, frame_spelling, commit_item_spelling, commit_code_spelling, part_spelling, entry_spelling, commit_request_body, commit_reply_body, fetch_request_body, fetch_reply_body}
+use Rattle.pc_model.specs.MessageReading.{◌>>=◌, size_at, body_at, whole, header_at, commit_item_at, commit_code_at, part_id_at, entry_at, commit_request_at, commit_reply_at, fetch_request_at, fetch_reply_at, frame_reading, commit_request_reading, commit_reply_reading, fetch_request_reading, fetch_reply_reading}
+use Rattle.pc_model.specs.Broker.{Commits, Fetches, is_fetch, request_reading}
 use Rattle.pc_offset_wire.specs.Writing.{IsCommitBody, IsCommitReplyBody, IsFetchBody, IsFetchReplyBody}
+use Rattle.pc_offset_wire.specs.Reading.{Gives}
 use Rattle.pc_offset_wire.proofs.ItemLemmas.{bind_ok}
-use Rattle.pc_offset_wire.proofs.FormatLaws.{IsBytes, IsBytes-rest, IsFormat, wide16, wide32, wide64, int-format, size-format, string-format, nullable-format, field, fixed-field, last, format_of, guard_ok, guard_not, ok_is}
+use Rattle.pc_offset_wire.proofs.FormatLaws.{IsBytes, IsBytes-rest, IsFormat, wide32, wide64, int-format, size-format, string-format, nullable-format, field, fixed-field, last, format_of, guard_not, ok_is}
 use Rattle.pc_offset_wire.proofs.ItemLaws.{commit_item-format, commit_code-format, part-format, entry-format, topics-format}
 
 -- ---- the bodies
@@ -24,10 +25,10 @@ pub header-format : (key version : ℤ) → FitsSigned w16 key → FitsSigned w1
 unfolding header_at
 header-format key version key_fits version_fits = format_of (header_at key version) (λ h. header_spelling key version h.0 h.1) _ (λ h. FitsSigned w32 h.0 × IsNullable h.1)
     (fixed-field key BadKey key_fits _ _ _ (λ _. Unit {0})
-      (fixed-field version BadVersion version_fits _ _ _ (λ _. Unit {0})
-        (field (int-format w32 wide32) (λ (h : Header). h.0) _ _ _ (λ _. Unit {0})
-          (λ correlation. last nullable-format (λ (h : Header). h.1) (λ client. (correlation, client))
-            (λ h. Unit {0} × (h.0 ≡ correlation)) (λ m. ((tt, refl), refl)) (λ h has. rw (← has.1) refl)))))
+    (fixed-field version BadVersion version_fits _ _ _ (λ _. Unit {0})
+    (field (int-format w32 wide32) (λ (h : Header). h.0) _ _ _ (λ _. Unit {0})
+    (λ correlation. last nullable-format (λ (h : Header). h.1) (λ client. (correlation, client))
+    (λ h. Unit {0} × (h.0 ≡ correlation)) (λ m. ((tt, refl), refl)) (λ h has. rw (← has.1) refl)))))
     (λ h whole. whole)
     (λ h holds. holds)
 
@@ -41,15 +42,15 @@ pub commit_request-format : IsFormat commit_request_at commit_request_body IsCom
 unfolding commit_request_at
 commit_request-format = format_of commit_request_at commit_request_body _ IsCommitBody
     (field commit-header (λ (r : CommitRequest). (r.correlation, r.client)) _ _ _ (λ _. Unit {0})
-      (λ header. field string-format (λ (r : CommitRequest). r.group) _ _ _ (λ r. Unit {0} × ((r.correlation, r.client) ≡ header))
-        (λ group. field (int-format w32 wide32) (λ (r : CommitRequest). r.generation) _ _ _ (λ r. (Unit {0} × ((r.correlation, r.client) ≡ header)) × (r.group ≡ group))
-          (λ generation. field string-format (λ (r : CommitRequest). r.member) _ _ _ (λ r. ((Unit {0} × ((r.correlation, r.client) ≡ header)) × (r.group ≡ group)) × (r.generation ≡ generation))
-            (λ member. field (int-format w64 wide64) (λ (r : CommitRequest). r.retention) _ _ _ (λ r. (((Unit {0} × ((r.correlation, r.client) ≡ header)) × (r.group ≡ group)) × (r.generation ≡ generation)) × (r.member ≡ member))
-              (λ retention. last (topics-format commit_item_at commit_item_spelling IsCommitItem commit_item-format) (λ (r : CommitRequest). r.topics)
-                (λ topics. record { correlation = header.0; client = header.1; group = group; generation = generation; member = member; retention = retention; topics = topics })
-                (λ r. ((((Unit {0} × ((r.correlation, r.client) ≡ header)) × (r.group ≡ group)) × (r.generation ≡ generation)) × (r.member ≡ member)) × (r.retention ≡ retention))
-                (λ m. ((((((tt, refl), refl), refl), refl), refl), refl))
-                (λ r has. rw (← has.0.0.0.0.1, ← has.0.0.0.1, ← has.0.0.1, ← has.0.1, ← has.1) refl)))))))
+    (λ header. field string-format (λ (r : CommitRequest). r.group) _ _ _ (λ r. Unit {0} × ((r.correlation, r.client) ≡ header))
+    (λ group. field (int-format w32 wide32) (λ (r : CommitRequest). r.generation) _ _ _ (λ r. (Unit {0} × ((r.correlation, r.client) ≡ header)) × (r.group ≡ group))
+    (λ generation. field string-format (λ (r : CommitRequest). r.member) _ _ _ (λ r. ((Unit {0} × ((r.correlation, r.client) ≡ header)) × (r.group ≡ group)) × (r.generation ≡ generation))
+    (λ member. field (int-format w64 wide64) (λ (r : CommitRequest). r.retention) _ _ _ (λ r. (((Unit {0} × ((r.correlation, r.client) ≡ header)) × (r.group ≡ group)) × (r.generation ≡ generation)) × (r.member ≡ member))
+    (λ retention. last (topics-format commit_item_at commit_item_spelling IsCommitItem commit_item-format) (λ (r : CommitRequest). r.topics)
+    (λ topics. record { correlation = header.0; client = header.1; group = group; generation = generation; member = member; retention = retention; topics = topics })
+    (λ r. ((((Unit {0} × ((r.correlation, r.client) ≡ header)) × (r.group ≡ group)) × (r.generation ≡ generation)) × (r.member ≡ member)) × (r.retention ≡ retention))
+    (λ m. ((((((tt, refl), refl), refl), refl), refl), refl))
+    (λ r has. rw (← has.0.0.0.0.1, ← has.0.0.0.1, ← has.0.0.1, ← has.0.1, ← has.1) refl)))))))
     (λ r whole. ((whole.correlation, whole.client), (whole.group, (whole.generation, (whole.member, (whole.retention, whole.topics))))))
     (λ r holds. record {
       correlation = holds.0.0;
@@ -65,9 +66,9 @@ pub commit_reply-format : IsFormat commit_reply_at commit_reply_body IsCommitRep
 unfolding commit_reply_at
 commit_reply-format = format_of commit_reply_at commit_reply_body _ IsCommitReplyBody
     (field (int-format w32 wide32) (λ (r : CommitReply). r.correlation) _ _ _ (λ _. Unit {0})
-      (λ correlation. last (topics-format commit_code_at commit_code_spelling IsCommitCode commit_code-format) (λ (r : CommitReply). r.topics)
-        (λ topics. record { correlation = correlation; topics = topics })
-        (λ r. Unit {0} × (r.correlation ≡ correlation)) (λ m. ((tt, refl), refl)) (λ r has. rw (← has.1) refl)))
+    (λ correlation. last (topics-format commit_code_at commit_code_spelling IsCommitCode commit_code-format) (λ (r : CommitReply). r.topics)
+    (λ topics. record { correlation = correlation; topics = topics })
+    (λ r. Unit {0} × (r.correlation ≡ correlation)) (λ m. ((tt, refl), refl)) (λ r has. rw (← has.1) refl)))
     (λ r whole. (whole.correlation, whole.topics))
     (λ r holds. record { correlation = holds.0; topics = holds.1 })
 
@@ -75,10 +76,10 @@ pub fetch_request-format : IsFormat fetch_request_at fetch_request_body IsFetchB
 unfolding fetch_request_at
 fetch_request-format = format_of fetch_request_at fetch_request_body _ IsFetchBody
     (field fetch-header (λ (r : FetchRequest). (r.correlation, r.client)) _ _ _ (λ _. Unit {0})
-      (λ header. field string-format (λ (r : FetchRequest). r.group) _ _ _ (λ r. Unit {0} × ((r.correlation, r.client) ≡ header))
-        (λ group. last (topics-format part_id_at part_spelling IsPart part-format) (λ (r : FetchRequest). r.topics)
-          (λ topics. record { correlation = header.0; client = header.1; group = group; topics = topics })
-          (λ r. (Unit {0} × ((r.correlation, r.client) ≡ header)) × (r.group ≡ group)) (λ m. (((tt, refl), refl), refl)) (λ r has. rw (← has.0.1, ← has.1) refl))))
+    (λ header. field string-format (λ (r : FetchRequest). r.group) _ _ _ (λ r. Unit {0} × ((r.correlation, r.client) ≡ header))
+    (λ group. last (topics-format part_id_at part_spelling IsPart part-format) (λ (r : FetchRequest). r.topics)
+    (λ topics. record { correlation = header.0; client = header.1; group = group; topics = topics })
+    (λ r. (Unit {0} × ((r.correlation, r.client) ≡ header)) × (r.group ≡ group)) (λ m. (((tt, refl), refl), refl)) (λ r has. rw (← has.0.1, ← has.1) refl))))
     (λ r whole. ((whole.correlation, whole.client), (whole.group, whole.topics)))
     (λ r holds. record { correlation = holds.0.0; client = holds.0.1; group = holds.1.0; topics = holds.1.1 })
 
@@ -86,9 +87,9 @@ pub fetch_reply-format : IsFormat fetch_reply_at fetch_reply_body IsFetchReplyBo
 unfolding fetch_reply_at
 fetch_reply-format = format_of fetch_reply_at fetch_reply_body _ IsFetchReplyBody
     (field (int-format w32 wide32) (λ (r : FetchReply). r.correlation) _ _ _ (λ _. Unit {0})
-      (λ correlation. last (topics-format entry_at entry_spelling IsEntry entry-format) (λ (r : FetchReply). r.topics)
-        (λ topics. record { correlation = correlation; topics = topics })
-        (λ r. Unit {0} × (r.correlation ≡ correlation)) (λ m. ((tt, refl), refl)) (λ r has. rw (← has.1) refl)))
+    (λ correlation. last (topics-format entry_at entry_spelling IsEntry entry-format) (λ (r : FetchReply). r.topics)
+    (λ topics. record { correlation = correlation; topics = topics })
+    (λ r. Unit {0} × (r.correlation ≡ correlation)) (λ m. ((tt, refl), refl)) (λ r has. rw (← has.1) refl)))
     (λ r whole. (whole.correlation, whole.topics))
     (λ r holds. record { correlation = holds.0; topics = holds.1 })
 
@@ -217,3 +218,18 @@ unfolding request_reading
 fetches-read frame m is =
     let key : is_fetch frame ≡ true = ap is_fetch is.spelled.is ∙ is_fetch-fetch m in
     rw (key, fetch_request-read frame m is) refl
+
+-- ---- what a reader answers
+
+-- it is of the grammar, where the reading is
+pub found_by : {X Y : Type 0} (view : X → Y) (result : Result X WireFault) (reading : Result Y WireFault) (Is : Y → Type 0) → Gives view result reading → ((m : Y) → reading ≡ Ok m → Is m) → IfOk result (λ x. Is (view x))
+found_by view (Ok x) reading Is gives law = law (view x) gives
+found_by view (Err fault) reading Is gives law = tt
+
+-- it is the one that is read
+pub only_by : {X Y : Type 0} (view : X → Y) (result : Result X WireFault) (reading : Result Y WireFault) (m : Y) → Gives view result reading → reading ≡ Ok m → IsOkAnd result (λ x. view x ≡ m)
+only_by {X} {Y} view (Ok x) reading m gives e = ok_is (view x) m (sym gives ∙ e)
+only_by {X} {Y} view (Err fault) reading m gives e = unread fault m (sym gives ∙ e)
+  where
+    unread : (fault : WireFault) (m : Y) → ◌≡◌ {A = Result Y WireFault} (Err fault) (Ok m) → ⊥
+    unread fault m e = absurd cc
