@@ -5,7 +5,7 @@ use Rattle.std.specs.List.{zip}
 use Rattle.pc_model.specs.Messages as messages
 use Rattle.pc_model.specs.Messages.{Topic}
 use Rattle.pc_offset_wire.specs.declared.fetch.FetchEntry.{FetchEntry}
-use Rattle.pc_offset_wire.specs.Views.{fetch_entry_of}
+use Rattle.pc_offset_wire.specs.Views.{plain_fetch_entry}
 
 -- how many items the topics have
 abbrev pub item_count : {A : Type 0} → List (Topic A) → ℕ
@@ -33,7 +33,7 @@ commit_reply_to r codes = record
     { correlation = r.correlation; topics = answered_topics code_of r.topics codes }
 
 abbrev pub entry_for : ℤ → FetchEntry → ℤ × messages.FetchEntry
-entry_for part entry = (part, fetch_entry_of entry)
+entry_for part entry = (part, plain_fetch_entry entry)
 
 -- the reply that has an entry for each part
 abbrev pub fetch_reply_to : messages.FetchRequest → List FetchEntry → messages.FetchReply

@@ -1,7 +1,6 @@
 -- What is written: texts put one behind the other, and the requests by their arguments.
-use Rattle.std.specs.Prelude.{◌≡◌, ℕ, ◌^◌, ◌<◌, ◌≤◌, ℤ, pos, ◌≤ℤ◌, List, ◌++◌, map, length, All, Option, Result, Ok, Err, FitsSigned}
+use Rattle.std.specs.Prelude.{◌≡◌, ℕ, ℤ, pos, ◌≤ℤ◌, List, ◌++◌, map, All, Option, Result, Ok, Err, FitsSigned}
 use Rattle.std.specs.Int.{w32, w64}
-use Rattle.std.specs.Option.{option_copied}
 use Rattle.pc_model.specs.Messages as messages
 use Rattle.pc_model.specs.Messages.{IsString, IsNullable, AreTopics, IsFrame, IsCommitItem, IsCommitCode, IsPart, IsEntry}
 use Rattle.pc_offset_wire.specs.declared.write_fault.WireWriteFault.{WireWriteFault}
@@ -9,7 +8,7 @@ use Rattle.pc_offset_wire.specs.declared.write_fault.WireWriteFault.TheVariants.
 use Rattle.pc_offset_wire.specs.declared.commit.CommitItem.{CommitItem}
 use Rattle.pc_offset_wire.specs.declared.commit_writing.CommitTopic.{CommitTopic}
 use Rattle.pc_offset_wire.specs.declared.fetch_writing.FetchTopic.{FetchTopic}
-use Rattle.pc_offset_wire.specs.Views.{commit_item_of}
+use Rattle.pc_offset_wire.specs.Views.{plain_commit_item}
 
 -- The text was put behind what stood there, and the fact holds; or the fact does not hold; or memory
 -- ran out.
@@ -26,11 +25,11 @@ IsStorable item = pos 0 ≤ℤ item.position
 abbrev pub AreStorable : CommitTopic → Type 0
 AreStorable topic = All IsStorable topic.items.now
 
-abbrev pub commit_topic_of : CommitTopic → messages.Topic messages.CommitItem
-commit_topic_of topic = record { name = topic.name.now; items = map commit_item_of topic.items.now }
+abbrev pub plain_commit_topic : CommitTopic → messages.Topic messages.CommitItem
+plain_commit_topic topic = record { name = topic.name.now; items = map plain_commit_item topic.items.now }
 
-abbrev pub fetch_topic_of : FetchTopic → messages.Topic ℤ
-fetch_topic_of topic = record { name = topic.name.now; items = topic.parts.now }
+abbrev pub plain_fetch_topic : FetchTopic → messages.Topic ℤ
+plain_fetch_topic topic = record { name = topic.name.now; items = topic.parts.now }
 
 abbrev pub commit_message : ℤ → Option (List ℕ) → List ℕ → ℤ → List ℕ → ℤ → List CommitTopic
     → messages.CommitRequest
@@ -41,7 +40,7 @@ commit_message correlation client group generation member retention topics = rec
   generation = generation;
   member = member;
   retention = retention;
-  topics = map commit_topic_of topics;
+  topics = map plain_commit_topic topics;
 }
 
 abbrev pub fetch_message : ℤ → Option (List ℕ) → List ℕ → List FetchTopic → messages.FetchRequest
@@ -49,7 +48,7 @@ fetch_message correlation client group topics = record {
   correlation = correlation;
   client = client;
   group = group;
-  topics = map fetch_topic_of topics;
+  topics = map plain_fetch_topic topics;
 }
 
 -- ---- what has a body

@@ -6,7 +6,7 @@ ghost use Rattle.pc_model.specs.Messages.{IsCommitRequest, IsCommitReply, IsComm
 ghost use Rattle.pc_model.specs.MessageReading.{commit_item_at};
 ghost use Rattle.pc_offset_wire.specs.declared.write_fault.WireWriteFault.TheVariants.{TooLong};
 ghost use Rattle.pc_offset_wire.specs.Items.{items_left};
-ghost use Rattle.pc_offset_wire.specs.Views.{commit_request_of};
+ghost use Rattle.pc_offset_wire.specs.Views.{plain_commit_request};
 ghost use Rattle.pc_offset_wire.specs.Writing.{Puts, AreStorable, commit_message, IsCommitBody, IsCommitReplyBody};
 ghost use Rattle.pc_offset_wire.specs.Replies.{item_count, answered_items, answered_topics, code_of, commit_reply_to};
 
@@ -25,13 +25,17 @@ pub struct CommitTopic<'a> {
 
 impl PutItem for CommitItem<'_> {
     ghost use Rattle.pc_model.specs.Messages.{CommitItem as PlainCommitItem, commit_item_spelling, IsCommitItem};
-    ghost use Rattle.pc_offset_wire.specs.Views.{commit_item_of};
+    ghost use Rattle.pc_offset_wire.specs.Views.{plain_commit_item};
     ghost use Rattle.pc_offset_wire.specs.Writing.{IsStorable};
 
     ghost Plain = { PlainCommitItem };
-    ghost plain = { commit_item_of };
+
+    ghost plain = { plain_commit_item };
+
     ghost spelled = { commit_item_spelling };
+
     ghost IsItem = { IsCommitItem };
+
     ghost IsPutable = { IsStorable };
 
     fn put(&self, out: &mut Vec<u8>) -> Result<(), WireWriteFault> {
@@ -43,12 +47,16 @@ impl PutItem for CommitItem<'_> {
 
 impl PutItem for CommitTopic<'_> {
     ghost use Rattle.pc_model.specs.Messages.{Topic, CommitItem as PlainCommitItem, commit_item_spelling, topic_spelling, IsCommitItem, IsTopic};
-    ghost use Rattle.pc_offset_wire.specs.Writing.{AreStorable, commit_topic_of};
+    ghost use Rattle.pc_offset_wire.specs.Writing.{AreStorable, plain_commit_topic};
 
     ghost Plain = { Topic PlainCommitItem };
-    ghost plain = { commit_topic_of };
+
+    ghost plain = { plain_commit_topic };
+
     ghost spelled = { topic_spelling commit_item_spelling };
+
     ghost IsItem = { IsTopic IsCommitItem };
+
     ghost IsPutable = { AreStorable };
 
     fn put(&self, out: &mut Vec<u8>) -> Result<(), WireWriteFault> {
@@ -59,12 +67,16 @@ impl PutItem for CommitTopic<'_> {
 
 impl PutItem for CommitCode {
     ghost use Rattle.pc_model.specs.Messages.{CommitCode as PlainCommitCode, commit_code_spelling, IsCommitCode};
-    ghost use Rattle.pc_offset_wire.specs.Views.{commit_code_of};
+    ghost use Rattle.pc_offset_wire.specs.Views.{plain_commit_code};
 
     ghost Plain = { PlainCommitCode };
-    ghost plain = { commit_code_of };
+
+    ghost plain = { plain_commit_code };
+
     ghost spelled = { commit_code_spelling };
+
     ghost IsItem = { IsCommitCode };
+
     ghost IsPutable = { λ _. Unit {0} };
 
     fn put(&self, out: &mut Vec<u8>) -> Result<(), WireWriteFault> {
@@ -92,7 +104,13 @@ fn put_commit_request(
         Puts (commit_request_body message) (IsCommitBody message) out.old.items out.new.items
         result }
 {
-    put::put_header(out, OFFSET_COMMIT, OFFSET_COMMIT_VERSION, correlation, client)?;
+    put::put_header(
+        out,
+        OFFSET_COMMIT,
+        OFFSET_COMMIT_VERSION,
+        correlation,
+        client,
+    )?;
     put::put_string(out, group)?;
     put::put_i32(out, generation)?;
     put::put_string(out, member)?;
@@ -101,11 +119,7 @@ fn put_commit_request(
 }
 
 /// Puts an array of the parts that were asked, each with its code.
-fn put_codes(
-    out: &mut Vec<u8>,
-    items: CommitItems<'_>,
-    codes: &[i16],
-) -> Result<(), WireWriteFault>
+fn put_codes(out: &mut Vec<u8>, items: CommitItems<'_>, codes: &[i16]) -> Result<(), WireWriteFault>
     requires { length codes.now ≡ length (items_left commit_item_at items) }
     ensures { let made = answered_items code_of (items_left commit_item_at items.entry) codes.now in
         Puts (array_spelling commit_code_spelling made) (IsArray IsCommitCode made) out.old.items
@@ -128,8 +142,8 @@ fn put_code_topics(
     request: &CommitRequest<'_>,
     codes: &[i16],
 ) -> Result<(), WireWriteFault>
-    requires { length codes.now ≡ item_count (commit_request_of request.now).topics }
-    ensures { let made = answered_topics code_of (commit_request_of request.now).topics codes.now in
+    requires { length codes.now ≡ item_count (plain_commit_request request.now).topics }
+    ensures { let made = answered_topics code_of (plain_commit_request request.now).topics codes.now in
         Puts (topics_spelling commit_code_spelling made) (AreTopics IsCommitCode made)
         out.old.items out.new.items result }
 {
@@ -150,8 +164,8 @@ fn put_commit_reply(
     request: &CommitRequest<'_>,
     codes: &[i16],
 ) -> Result<(), WireWriteFault>
-    requires { length codes.now ≡ item_count (commit_request_of request.now).topics }
-    ensures { let message = commit_reply_to (commit_request_of request.now) codes.now in
+    requires { length codes.now ≡ item_count (plain_commit_request request.now).topics }
+    ensures { let message = commit_reply_to (plain_commit_request request.now) codes.now in
         Puts (commit_reply_body message) (IsCommitReplyBody message) out.old.items out.new.items
         result }
 {
@@ -184,7 +198,14 @@ pub fn write_commit_request(
 {
     let mut body = Vec::new(alloc);
     put_commit_request(
-        &mut body, correlation, client, group, generation, member, retention, topics,
+        &mut body,
+        correlation,
+        client,
+        group,
+        generation,
+        member,
+        retention,
+        topics,
     )?;
     put::frame_of(alloc, &body)
 }
@@ -195,13 +216,13 @@ pub fn write_commit_reply(
     request: &CommitRequest<'_>,
     codes: &[i16],
 ) -> Result<Vec<u8>, WireWriteFault>
-    requires { length codes.now ≡ item_count (commit_request_of request.now).topics }
+    requires { length codes.now ≡ item_count (plain_commit_request request.now).topics }
     ensures frame { IfOk result (λ frame. IsCommitReply frame.items
-        (commit_reply_to (commit_request_of request.now) codes.now)) }
+        (commit_reply_to (plain_commit_request request.now) codes.now)) }
 
     // Only what no frame spells is too long.
     ensures too_long { result ≡ Err TooLong → (frame : List ℕ) → IsCommitReply frame
-        (commit_reply_to (commit_request_of request.now) codes.now) → ⊥ }
+        (commit_reply_to (plain_commit_request request.now) codes.now) → ⊥ }
 {
     let mut body = Vec::new(alloc);
     put_commit_reply(&mut body, request, codes)?;

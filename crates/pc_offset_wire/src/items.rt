@@ -14,6 +14,7 @@ use std::marker::PhantomData;
 pub trait WireItem<'a>: Copy {
     /// The item without where it lies in memory.
     ghost Plain: { Type 0 };
+
     ghost plain: { Self → Plain };
 
     /// The reading of it.
@@ -27,20 +28,20 @@ pub trait WireItem<'a>: Copy {
 /// The items of an array that are left.
 #[derive(Clone, Copy, Debug)]
 pub struct Items<'a, T> {
-    pub(crate) bytes: &'a [u8],
-    pub(crate) count: u32,
+    bytes: &'a [u8],
+    count: u32,
     of: PhantomData<T>,
 }
 
 impl<'a, T> Items<'a, T> {
-    /// At most so many items, at the front of the bytes.
-    pub(crate) fn of(bytes: &'a [u8], count: u32) -> Items<'a, T>
+    /// The same items.
+    pub(crate) fn again(&self) -> Items<'a, T>
         ensures few { result.count < 2 ^ 32 }
-        ensures fields { result ≡ record { bytes = bytes.entry; count = count; of = record { } } }
+        ensures same { result ≡ self.now }
     {
         Items {
-            bytes,
-            count,
+            bytes: self.bytes,
+            count: self.count,
             of: PhantomData,
         }
     }
@@ -59,7 +60,9 @@ fn skip<'a, T: WireItem<'a>>(count: u32, bytes: &'a [u8]) -> Result<&'a [u8], Wi
 }
 
 /// An array: a count, and so many items, each of them checked.
-pub(crate) fn array<'a, T: WireItem<'a>>(bytes: &'a [u8]) -> Result<(Items<'a, T>, &'a [u8]), WireFault>
+pub(crate) fn array<'a, T: WireItem<'a>>(
+    bytes: &'a [u8],
+) -> Result<(Items<'a, T>, &'a [u8]), WireFault>
     ensures { Gives (λ x. (items_left T.at x.0, x.1.now)) result (array_at T.at bytes.now) }
 {
     let (count, bytes) = fields::count_at(bytes)?;
@@ -79,8 +82,7 @@ impl<'a, T: WireItem<'a>> Items<'a, T> {
     pub(crate) fn len(&self) -> usize
         ensures { result ≡ length (items_left T.at self.now) }
     {
-        let items: Items<'a, T> = Items::of(self.bytes, self.count);
-        items.count()
+        self.again().count()
     }
 }
 

@@ -25,3 +25,6 @@ pub use fetch_writing::{FetchTopic, write_fetch_reply, write_fetch_request};
 pub use items::{Items, WireItem};
 pub use pc_model::WireFault;
 pub use write_fault::WireWriteFault;
+
+#[cfg(test)]
+mod tests;
