@@ -79,7 +79,7 @@ pub(crate) fn array<'a, T: WireItem<'a>>(
 
 impl<'a, T: WireItem<'a>> Items<'a, T> {
     /// How many items are left.
-    pub(crate) fn len(&self) -> usize
+    pub fn len(&self) -> usize
         ensures { result ≡ length (items_left T.at self.now) }
     {
         self.again().count()
