@@ -8,7 +8,7 @@ ghost use Rattle.pc_offset_wire.specs.Views.{commit_code_of, fetch_entry_of, par
 ghost use Rattle.pc_offset_client.specs.Client.{IsFrameCommit, accepted, commit_answer, entry_commit, fetch_answer, only_item, only_one, same, same_topic};
 
 use crate::fault::ClientFault;
-use crate::question::TOPIC;
+use crate::question::{TOPIC, part_id};
 use pc_model::api::NO_ERROR;
 use pc_model::{Commit, MapText};
 use pc_offset_wire::{
@@ -101,7 +101,7 @@ pub(crate) fn of_commit(id: i32, part: u32, reply: &[u8]) -> Result<(), ClientFa
     let reply = read_commit_reply(reply).map_err(ClientFault::BadReply)?;
     same(id, reply.correlation)?;
     let item = only_code(reply.topics())?;
-    same(part as i32, item.part)?;
+    same(part_id(part), item.part)?;
     accepted(item.code)
 }
 
@@ -116,7 +116,7 @@ fn entry_in(id: i32, part: u32, reply: &[u8]) -> Result<FetchEntry<'_>, ClientFa
     let reply = read_fetch_reply(reply).map_err(ClientFault::BadReply)?;
     same(id, reply.correlation)?;
     let (found, entry) = only_entry(reply.topics())?;
-    same(part as i32, found)?;
+    same(part_id(part), found)?;
     accepted(entry.code)?;
     Ok(entry)
 }

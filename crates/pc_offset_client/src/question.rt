@@ -1,6 +1,6 @@
 //! The frames that the client sends: each is for one part of the topic.
 
-ghost use Rattle.std.specs.Prelude.{◌≤◌, ◌<◌, ◌^◌, IfOk, length};
+ghost use Rattle.std.specs.Prelude.{◌≡◌, ◌≤◌, ◌<◌, ◌^◌, pos, IfOk, length};
 ghost use Rattle.pc_model.specs.Messages.{IsCommitRequest, IsFetchRequest};
 ghost use Rattle.pc_world.specs.declared.link.TheConstants.{FRAME_BYTES_MAX};
 ghost use Rattle.pc_offset_client.specs.Client.{commit_question, fetch_question};
@@ -27,6 +27,22 @@ const NO_MEMBER: &str = "";
 
 const NO_RETENTION: i64 = -1;
 
+/// A part as a number of the protocol.
+pub(crate) fn part_id(part: u32) -> i32
+    requires { part < 2 ^ 31 }
+    ensures { result ≡ pos part }
+{
+    part as i32
+}
+
+/// An offset as a number of the protocol.
+fn offset(position: u64) -> i64
+    requires { position < 2 ^ 63 }
+    ensures { result ≡ pos position }
+{
+    position as i64
+}
+
 /// The frame that has the commit stored for the part.
 pub(crate) fn commit_frame(
     alloc: Global,
@@ -42,8 +58,8 @@ pub(crate) fn commit_frame(
     ensures short { IfOk result (λ frame. length frame.items ≤ FRAME_BYTES_MAX) }
 {
     let items = [CommitItem {
-        part: part as i32,
-        position: commit.position as i64,
+        part: part_id(part),
+        position: offset(commit.position),
         metadata: Some(commit.map.as_str()),
     }];
     let topics = [CommitTopic {
@@ -68,11 +84,11 @@ pub(crate) fn commit_frame(
 
 /// The frame that asks what is stored for the part.
 pub(crate) fn fetch_frame(alloc: Global, id: i32, part: u32) -> Result<Vec<u8>, AllocError>
-    requires part { part < 2 ^ 31 }
+    requires { part < 2 ^ 31 }
     ensures frame { IfOk result (λ frame. IsFetchRequest frame.items (fetch_question id part)) }
     ensures short { IfOk result (λ frame. length frame.items ≤ FRAME_BYTES_MAX) }
 {
-    let parts = [part as i32];
+    let parts = [part_id(part)];
     let topics = [FetchTopic {
         name: TOPIC,
         parts: &parts,
