@@ -19,7 +19,7 @@ use Rattle.std.specs.Str.{IsAscii}
 use Rattle.pc_model.specs.declared.commit.Commit.{Commit}
 use Rattle.pc_model.specs.declared.api.TheConstants.{NO_ERROR, UNKNOWN_TOPIC_OR_PARTITION, OFFSET_METADATA_TOO_LARGE, ILLEGAL_GENERATION, UNKNOWN_MEMBER_ID, METADATA_MAX}
 use Rattle.pc_model.specs.declared.wire_fault.WireFault.{WireFault}
-use Rattle.pc_model.specs.Messages.{Topic, CommitItem, CommitRequest, CommitReply, FetchRequest, FetchReply, IsString, IsNullable, IsCommitRequest, IsCommitReply, IsEntry, IsFetchRequest, IsFetchReply, FetchEntry, commit_request_body, fetch_request_body, frame_spelling}
+use Rattle.pc_model.specs.Messages.{Topic, CommitItem, CommitRequest, CommitReply, FetchRequest, FetchReply, IsString, IsNullable, IsTopic, AreTopics, IsCommitRequest, IsCommitReply, IsEntry, IsFetchRequest, IsFetchReply, FetchEntry, commit_request_body, fetch_request_body, frame_spelling}
 use Rattle.pc_model.specs.MessageReading.{commit_reply_reading, fetch_reply_reading}
 use Rattle.pc_model.specs.Given.{no_commit}
 use Rattle.pc_model.specs.Broker.{Broker, Membership, Request, Commits, Fetches, Refusal, TooLong, request_reading, broker_step, step_of, reply_body, after_request, after_items, after_item, after_some, item_code, membership_of, membership_refusal, metadata_text, stored_for, is_for, has_part, commit_reply_of, fetch_reply_of, fetch_entry, entry_of, unknown_entry, Stored}
@@ -460,3 +460,25 @@ fetch-may_store b b' id part frame asked may =
     let same_request : may.request ≡ Fetches (fetch_question id part) =
     read-once may.request (Fetches (fetch_question id part)) (sym may.is_read ∙ read) in
     may.stored ∙ ap (λ (r : Request). after_some may.some r b) same_request
+
+-- ---- the only item is one of the items
+
+bind-ok : {A B : Type 0} (r : Result A ClientFault) (f : A → Result B ClientFault) (y : B) → (r >>= f) ≡ Ok y
+    → (x : A) × (r ≡ Ok x) × (f x ≡ Ok y)
+bind-ok (Ok x) f y is = (x, refl, is)
+bind-ok (Err fault) f y is = absurd cc
+
+only_one-is : {A : Type 0} (P : A → Type 0) (xs : List A) (x : A) → AllByRecursion P xs → only_one xs ≡ Ok x → P x
+only_one-is P [] x all is = absurd cc
+only_one-is {A} P (y ∷ []) x all is = subst P (same-ok y x is) all.0
+  where
+    same-ok : (y x : A) → ◌≡◌ {A = Result A ClientFault} (Ok y) (Ok x) → y ≡ x
+    same-ok y x is = cc
+only_one-is P (y ∷ z ∷ xs) x all is = absurd cc
+
+pub only_item-is : {A : Type 0} (P : A → Type 0) (topics : List (Topic A)) (x : A) → AreTopics P topics → only_item topics ≡ Ok x → P x
+unfolding only_item
+only_item-is P topics x are is =
+    let topic = bind-ok (only_one topics) _ x is in
+    let named = bind-ok (same_topic topic.0.name) _ x topic.2 in
+    only_one-is P topic.0.items x (only_one-is (IsTopic P) topics topic.0 are.each topic.1).items.each named.2

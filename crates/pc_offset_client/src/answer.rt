@@ -1,11 +1,13 @@
 //! What the reply to a question for one part answers.
 
 ghost use Rattle.std.specs.Prelude.{◌≡◌, ◌<◌, ◌^◌, ◌⊎◌, Ok, Err, IfErr, IfOk};
+ghost use Rattle.std.specs.Option.{option_copied};
+ghost use Rattle.pc_model.specs.Messages.{IsNullable};
 ghost use Rattle.pc_model.specs.MessageReading.{commit_code_at, entry_at, topic_at};
 ghost use Rattle.pc_offset_client.specs.declared.fault.ClientFault.TheVariants.{NoMemory};
 ghost use Rattle.pc_offset_wire.specs.Items.{items_left};
-ghost use Rattle.pc_offset_wire.specs.Views.{commit_code_of, fetch_entry_of, part_entry_of};
-ghost use Rattle.pc_offset_client.specs.Client.{IsFrameCommit, accepted, commit_answer, entry_commit, fetch_answer, only_item, only_one, same, same_topic};
+ghost use Rattle.pc_offset_wire.specs.Views.{plain_commit_code, plain_fetch_entry, plain_part_entry};
+ghost use Rattle.pc_offset_client.specs.Client.{IsFrameCommit, commit_answer, entry_commit, fetch_answer, only_item, only_one, same, same_topic};
 
 use crate::fault::ClientFault;
 use crate::question::{TOPIC, part_id};
@@ -59,7 +61,7 @@ fn same_topic(name: &str) -> Result<(), ClientFault>
 #[tactic(auto, unfolding(crate::specs::Client::only_item))]
 fn only_code<'a>(topics: CodeTopics<'a>) -> Result<CommitCode, ClientFault>
     ensures ok { IfOk result (λ item. only_item (items_left (topic_at commit_code_at) topics.entry)
-        ≡ Ok (commit_code_of item)) }
+        ≡ Ok (plain_commit_code item)) }
     ensures err { IfErr result
         (λ e. only_item (items_left (topic_at commit_code_at) topics.entry) ≡ Err e) }
 {
@@ -72,7 +74,7 @@ fn only_code<'a>(topics: CodeTopics<'a>) -> Result<CommitCode, ClientFault>
 #[tactic(auto, unfolding(crate::specs::Client::only_item))]
 fn only_entry<'a>(topics: EntryTopics<'a>) -> Result<(i32, FetchEntry<'a>), ClientFault>
     ensures ok { IfOk result (λ item. only_item (items_left (topic_at entry_at) topics.entry)
-        ≡ Ok (part_entry_of item)) }
+        ≡ Ok (plain_part_entry item)) }
     ensures err { IfErr result
         (λ e. only_item (items_left (topic_at entry_at) topics.entry) ≡ Err e) }
 {
@@ -81,28 +83,20 @@ fn only_entry<'a>(topics: EntryTopics<'a>) -> Result<(i32, FetchEntry<'a>), Clie
     only(items)
 }
 
-/// Refuses a code that is not 0.
-fn accepted(code: i16) -> Result<(), ClientFault>
-    ensures { result ≡ accepted code }
-{
-    if code == NO_ERROR {
-        Ok(())
-    } else {
-        Err(ClientFault::Refused(code))
-    }
-}
-
 /// What a reply says of the commit of the part.
 #[tactic(auto, unfolding(crate::specs::Client::commit_answer))]
 pub(crate) fn of_commit(id: i32, part: u32, reply: &[u8]) -> Result<(), ClientFault>
     requires { part < 2 ^ 31 }
     ensures { result ≡ commit_answer id part reply.now }
 {
-    let reply = read_commit_reply(reply).map_err(ClientFault::BadReply)?;
+    let reply = read_commit_reply(reply)?;
     same(id, reply.correlation)?;
     let item = only_code(reply.topics())?;
     same(part_id(part), item.part)?;
-    accepted(item.code)
+    if item.code != NO_ERROR {
+        return Err(ClientFault::Refused(item.code));
+    }
+    Ok(())
 }
 
 /// The entry for the part in a reply.
@@ -110,20 +104,25 @@ pub(crate) fn of_commit(id: i32, part: u32, reply: &[u8]) -> Result<(), ClientFa
 fn entry_in(id: i32, part: u32, reply: &[u8]) -> Result<FetchEntry<'_>, ClientFault>
     requires { part < 2 ^ 31 }
     ensures ok { IfOk result (λ entry. fetch_answer id part reply.now
-        ≡ Ok (entry_commit (fetch_entry_of entry))) }
+        ≡ Ok (entry_commit (plain_fetch_entry entry))) }
     ensures err { IfErr result (λ e. fetch_answer id part reply.now ≡ Err e) }
+    ensures text { IfOk result (λ entry. IsNullable (option_copied entry.metadata)) }
 {
-    let reply = read_fetch_reply(reply).map_err(ClientFault::BadReply)?;
+    let reply = read_fetch_reply(reply)?;
     same(id, reply.correlation)?;
     let (found, entry) = only_entry(reply.topics())?;
     same(part_id(part), found)?;
-    accepted(entry.code)?;
+    if entry.code != NO_ERROR {
+        return Err(ClientFault::Refused(entry.code));
+    }
     Ok(entry)
 }
 
 /// A copy of the commit of an entry.
 fn copied(alloc: Global, entry: &FetchEntry<'_>) -> Result<Commit, ClientFault>
-    ensures ok { IfOk result (λ c. c ≡ entry_commit (fetch_entry_of entry.now)) }
+    requires { IsNullable (option_copied entry.now.metadata) }
+    ensures ok { IfOk result (λ c. c ≡ entry_commit (plain_fetch_entry entry.now)) }
+    ensures small { IfOk result IsFrameCommit }
     ensures fault { IfErr result (λ e. e ≡ NoMemory) }
 {
     if entry.position < 0 {

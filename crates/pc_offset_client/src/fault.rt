@@ -1,8 +1,7 @@
 //! Why a commit was not stored, or not fetched.
 
 ghost use Rattle.std.specs.Prelude.{◌≡◌};
-ghost use Rattle.pc_offset_client.specs.declared.fault.ClientFault.TheVariants.{LinkFailed, NoMemory};
-ghost use Rattle.pc_world.specs.declared.link.LinkFault.TheVariants as links;
+ghost use Rattle.pc_offset_client.specs.declared.fault.ClientFault.TheVariants.{BadReply, NoMemory};
 
 use pc_model::WireFault;
 use std::alloc::AllocError;
@@ -35,5 +34,13 @@ impl From<AllocError> for ClientFault {
 
     fn from(_e: AllocError) -> ClientFault {
         ClientFault::NoMemory
+    }
+}
+
+impl From<WireFault> for ClientFault {
+    ghost from_gives = { λ fault e. e ≡ BadReply fault };
+
+    fn from(fault: WireFault) -> ClientFault {
+        ClientFault::BadReply(fault)
     }
 }
