@@ -1,2 +1,4 @@
 pub mod Lists
 pub mod RisingLemmas
+pub mod ShardKeyLemmas
+pub mod QueuesLemmas

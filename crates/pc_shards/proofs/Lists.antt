@@ -1,6 +1,6 @@
 -- Tests, and members of lists.
 use Rattle.std.proofs.Common.{◌≡◌, ◌⊎◌, ℕ, Bool, true, false, not, ◌&&◌, ◌||◌, ◌==◌, cond, List, [], ◌∷◌, ◌++◌, map, refl, ap, sym, subst, inl, inr, arith}
-use Rattle.std.specs.Prelude.{filter}
+use Rattle.std.specs.Prelude.{filter, OnErr, Result, Ok, Err}
 use Rattle.std.specs.List.{AllByRecursion, list_any, list_all}
 use Rattle.std.proofs.lemmas.Bool.{cases_Bool}
 use Rattle.std.proofs.lemmas.Bool.Decides.{Decides-eqb}
@@ -163,3 +163,10 @@ pub In-mapped : {X Y : Type 0} (f : X → Y) (y : Y) (xs : List X) → In y (map
 In-mapped f y [] i = elim i [ ]
 In-mapped f y (x ∷ xs) (inl e) = (x, inl refl, e)
 In-mapped f y (x ∷ xs) (inr i) = let r = In-mapped f y xs i in (r.0, inr r.1, r.2)
+
+-- ---- answers
+
+-- what holds in any case holds at an error
+pub on_err : {T E P : Type 0} (r : Result T E) → P → OnErr r P
+on_err (Ok x) p = tt
+on_err (Err e) p = p

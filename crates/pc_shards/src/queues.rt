@@ -1,6 +1,6 @@
 //! The queue of offsets of each ordering key. Clauses see a queue by `queue_of`.
 
-ghost use Rattle.std.specs.Prelude.{◌≡◌, ◌==◌, length, ◌++◌, [], ◌∷◌, IfOk, OnErr, OnOk, true, false, drop, slice_get};
+ghost use Rattle.std.specs.Prelude.{not, ◌≡◌, ◌==◌, length, ◌++◌, [], ◌∷◌, IfOk, OnErr, OnOk, true, false, drop, slice_get};
 ghost use Rattle.pc_shards.specs.declared.shard_key.ShardKey.{ShardKey};
 ghost use Rattle.pc_shards.specs.Queues.{queue_of};
 ghost use Rattle.pc_shards.specs.ShardKey.{is_same, part_of};
@@ -56,11 +56,11 @@ impl<'a> Queues<'a> {
     {
         let queue = self.map.get_mut(&key)?;
         queue.pop_front();
-        if let Some(next) = queue.front() {
-            return Some(*next);
+        let next = queue.front().copied();
+        if next.is_none() {
+            self.map.swap_remove(&key);
         }
-        self.map.swap_remove(&key);
-        None
+        next
     }
 
     /// Empties the queues of the part's keys.
@@ -69,7 +69,10 @@ impl<'a> Queues<'a> {
         ensures others { (k : ShardKey) → (part_of k == part) ≡ false
             → queue_of self.new k ≡ queue_of self.old k }
     {
-        self.map
-            .retain(|key, _queue| shard_key::part(key) != part);
+        self.map.retain(
+            |key: &ShardKey<'_>, queue: &mut VecDeque<u64>| -> bool
+                ensures { (result ≡ not (part_of key.now == part)) × (queue.new ≡ queue.old) }
+            { shard_key::part(key) != part },
+        );
     }
 }
