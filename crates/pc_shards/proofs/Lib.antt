@@ -2,3 +2,5 @@ pub mod Lists
 pub mod RisingLemmas
 pub mod ShardKeyLemmas
 pub mod QueuesLemmas
+pub mod PartLemmas
+pub mod EntriesLemmas

@@ -1,6 +1,6 @@
 -- Rising numbers: one more, one less, how many there are, and the least.
 use Rattle.std.proofs.Common.{◌≡◌, ◌⊎◌, ℕ, zero, suc, ◌+◌, ◌-◌, ◌<◌, ◌≤◌, min, Bool, true, false, not, ◌==◌, cond, List, [], ◌∷◌, ◌++◌, map, length, take, drop, get_or, leb, Option, Some, None, refl, ap, sym, subst, inl, inr, ◌∙◌, arith}
-use Rattle.std.specs.Prelude.{filter, insert, remove}
+use Rattle.std.specs.Prelude.{filter, insert, remove, slice_get}
 use Rattle.std.specs.List.{AllByRecursion, AllWithin}
 use Rattle.std.specs.List.Sorted.{IsNonDecreasingBy}
 use Rattle.std.specs.Option.{option_map_or}
@@ -8,7 +8,7 @@ use Rattle.std.proofs.lemmas.Bool.{cases_Bool, cases_lt}
 use Rattle.std.proofs.lemmas.Bool.Decides.{nat_tests}
 use Rattle.pc_model.specs.Numbers.{least_of}
 use Rattle.pc_shards.specs.Rising.{In, Rises, but, put}
-use Rattle.pc_shards.proofs.Lists.{AllByRecursion-In, AllByRecursion-each, In-map, In-filter, In-filtered, filter-all, number-same, number-other, number-is, number-is_not, not-false, not-true}
+use Rattle.pc_shards.proofs.Lists.{AllByRecursion-In, AllByRecursion-each, In-append, In-map, In-mapped, In-filter, In-filtered, filter-all, number-same, number-other, number-is, number-is_not, not-false, not-true}
 
 le-true : (m n : ℕ) → m ≤ n → leb m n ≡ true
 le-true m n h = grind (arith, nat_tests)
@@ -232,3 +232,62 @@ least_of-first xs first rest r sound whole = least_of-is first xs (sound first (
 pub least_of-none : (xs : List ℕ) → ((n : ℕ) → In n xs → ⊥) → least_of xs ≡ None
 least_of-none [] none = refl
 least_of-none (x ∷ xs) none = absurd (none x (inl refl))
+
+-- ---- lists of items by rising numbers
+
+pub Rises-push : (n : ℕ) (xs : List ℕ) → Rises xs → ((x : ℕ) → In x xs → x < n) → Rises (xs ++ n ∷ [])
+Rises-push n [] r below = (tt, tt)
+Rises-push n (x ∷ xs) r below = (
+  AllByRecursion-each (λ y. x < y) (xs ++ n ∷ []) (λ y i. elim (In-append y xs (n ∷ []) i) [
+    | inl j ↦ AllByRecursion-In (λ y. x < y) y xs r.0 j
+    | inr j ↦ elim j [ inl e ↦ rw e (below x (inl refl)) | inr none ↦ elim none [ ] ]
+  ]),
+  Rises-push n xs r.1 (λ y i. below y (inr i)),
+)
+
+pub Rises-map-filter : {X : Type 0} (f : X → ℕ) (t : X → Bool) (xs : List X) → Rises (map f xs)
+    → Rises (map f (filter t xs))
+Rises-map-filter f t [] r = tt
+Rises-map-filter f t (x ∷ xs) r = elim (t x) as
+    (λ b. Rises (map f (cond b (x ∷ filter t xs) (filter t xs)))) [
+      | true ↦ (AllByRecursion-each (λ y. f x < y) (map f (filter t xs)) (λ y i.
+        let m = In-mapped f y (filter t xs) i in
+        let more = AllByRecursion-In (λ y. f x < y) (f m.0) (map f xs) r.0
+        (In-map f m.0 xs (In-filtered t m.0 xs m.1).0) in
+        rw m.2 more), Rises-map-filter f t xs r.1)
+      | false ↦ Rises-map-filter f t xs r.1
+    ]
+
+-- one that is among rising numbers and below none of them is the first
+pub head-is : (n : ℕ) (xs : List ℕ) → Rises xs → In n xs → ((x : ℕ) → In x xs → n ≤ x)
+    → slice_get xs 0 ≡ Some n
+head-is n [] r i low = elim i [ ]
+head-is n (x ∷ xs) r (inl e) low = ap Some (sym e)
+head-is n (x ∷ xs) r (inr i) low =
+    let more = AllByRecursion-In (λ y. x < y) n xs r.0 i in
+    let le = low x (inl refl) in absurd (omega (arith, more, le))
+
+-- and the first is among them and below none
+pub head-In : (n : ℕ) (xs : List ℕ) → slice_get xs 0 ≡ Some n → In n xs
+head-In n [] e = cc
+head-In n (x ∷ xs) e = let is : x ≡ n = cc in inl (sym is)
+
+pub head-low : (n : ℕ) (xs : List ℕ) → Rises xs → slice_get xs 0 ≡ Some n → (x : ℕ) → In x xs → n ≤ x
+head-low n [] r e x i = elim i [ ]
+head-low n (y ∷ xs) r e x (inl f) = let is : y ≡ n = cc in omega (arith, is, f)
+head-low n (y ∷ xs) r e x (inr i) = let is : y ≡ n = cc in
+    let more = AllByRecursion-In (λ z. y < z) x xs r.0 i in omega (arith, is, more)
+
+-- without the first, the rest is left
+pub but-head : (n : ℕ) (xs : List ℕ) → Rises xs → slice_get xs 0 ≡ Some n → but n xs ≡ drop 1 xs
+but-head n [] r e = cc
+but-head n (x ∷ xs) r e = let is : x ≡ n = cc in rw (number-same x n is) (but-none n xs (λ y i.
+    let more = AllByRecursion-In (λ z. x < z) y xs r.0 i in apart-above n y (omega (arith, more, is))))
+
+pub In-some : {X : Type 0} (x : X) (xs : List X) → In x xs → 0 < length xs
+In-some x [] i = elim i [ ]
+In-some x (y ∷ ys) i = omega arith
+
+pub some-In : {X : Type 0} (xs : List X) → 0 < length xs → (x : X) × In x xs
+some-In [] h = absurd (omega arith)
+some-In (x ∷ xs) h = (x, inl refl)

@@ -78,7 +78,7 @@ impl<'a> Part<'a> {
     fn place(&self, offset: u64) -> usize
         requires rises { Rises (offsets_of (plain_entries self.now.entries.items)) }
         requires has { In offset (offsets_of (plain_entries self.now.entries.items)) }
-        ensures within { result < vec_len self.now.entries }
+        ensures within { result < length self.now.entries.items }
         ensures place { (d : EntryRef)
             → (slice_index_or self.now.entries.items result d).offset ≡ offset }
     {
