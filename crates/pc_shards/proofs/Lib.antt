@@ -4,3 +4,4 @@ pub mod ShardKeyLemmas
 pub mod QueuesLemmas
 pub mod PartLemmas
 pub mod EntriesLemmas
+pub mod ShardsLemmas

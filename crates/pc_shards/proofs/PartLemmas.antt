@@ -7,7 +7,7 @@ use Rattle.pc_shards.specs.declared.part.EntryRef.{EntryRef}
 use Rattle.pc_shards.specs.Entries.{Entry, marked, with_busy, without}
 use Rattle.pc_shards.specs.Part.{EachAt, offsets_of, plain, plain_entries}
 use Rattle.pc_shards.specs.Rising.{In, Rises}
-use Rattle.pc_shards.proofs.Lists.{AllByRecursion-In, In-map, filter-all, not-false, number-other, number-same}
+use Rattle.pc_shards.proofs.Lists.{AllByRecursion-In, In-map, In-mapped, filter-all, not-false, number-other, number-same, true-false}
 use Rattle.pc_shards.proofs.RisingLemmas.{In-get_or}
 
 pub offsets-plain : (es : List EntryRef) → offsets_of (plain_entries es) ≡ map (λ e. e.offset) es
@@ -99,3 +99,9 @@ pub each-at : (o : ℕ) (es : List EntryRef) (i : ℕ) (d : EntryRef) (P : Entry
 each-at o es i d P r within is here = λ e j at. subst P (one-entry (plain_entries es) r
     (plain (get_or es i d)) e (In-map plain (get_or es i d) es (In-get_or es i d within)) j
     (is ∙ sym at)) here
+
+-- an entry is not both busy and free
+pub busy-or_free : {P : Type 0} (o : ℕ) (es : List Entry) → In o (offsets_of es)
+    → EachAt o es (λ e. e.is_busy ≡ true) → EachAt o es (λ e. e.is_busy ≡ false) → P
+busy-or_free o es has busy free = let m = In-mapped (λ (x : Entry). x.offset) o es has in
+    true-false m.0.is_busy (busy m.0 m.1 (sym m.2)) (free m.0 m.1 (sym m.2))

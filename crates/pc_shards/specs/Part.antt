@@ -4,6 +4,7 @@ use Rattle.std.specs.Option.{option_copied}
 use Rattle.pc_model.specs.declared.choices.Order.{Order}
 use Rattle.pc_model.specs.Next.{OrderingKey, same_key}
 use Rattle.pc_shards.specs.declared.part.EntryRef.{EntryRef}
+use Rattle.pc_shards.specs.declared.part.Part.{Part}
 use Rattle.pc_shards.specs.Entries.{Entry, is_first, key_of}
 use Rattle.pc_shards.specs.Rising.{In, Rises}
 
@@ -22,6 +23,12 @@ offsets_of es = map (λ e. e.offset) es
 -- that this holds of each entry at the offset
 abbrev pub EachAt : ℕ → List Entry → (Entry → Type 0) → Type 0
 EachAt o es P = (e : Entry) → In e es → e.offset ≡ o → P e
+
+-- that the part has the offset, and its offsets and its ready ones rise
+pub record Holds (o : ℕ) (part : Part) : Type 0 where
+  pub rises : Rises (offsets_of (plain_entries part.entries.items))
+  pub ready_rises : Rises part.ready.items
+  pub has : In o (offsets_of (plain_entries part.entries.items))
 
 -- the offsets of an ordering key
 abbrev pub queue : Order → ℕ → List Entry → OrderingKey → List ℕ

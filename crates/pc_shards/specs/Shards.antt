@@ -16,7 +16,7 @@ all_entries parts = map (λ s. plain_entries s.entries.items) parts
 
 -- the entries of a part
 abbrev pub entries_at : List Part → ℕ → List Entry
-entries_at parts p = slice_index_or (all_entries parts) p []
+entries_at parts p = option_map_or (λ s. plain_entries s.entries.items) (slice_get parts p) []
 
 -- its ready offsets
 abbrev pub ready_at : List Part → ℕ → List ℕ

@@ -1,13 +1,14 @@
 //! The entries of one part in rising order of offsets, and beside them the offsets that are ready.
 //! Clauses see the entries by `plain_entries`.
 
-ghost use Rattle.std.specs.Prelude.{◌≡◌, ◌+◌, ◌<◌, ◌≤◌, ◌++◌, ◌∷◌, [], false, length, if◌then◌else◌, get_or, slice_index_or, vec_capacity, vec_len, OnOk};
+ghost use Rattle.std.specs.Prelude.{◌≡◌, ◌+◌, ◌<◌, ◌≤◌, ◌++◌, ◌∷◌, [], false, true, length, if◌then◌else◌, get_or, slice_index_or, vec_capacity, vec_len, OnOk};
 ghost use Rattle.std.specs.Option.{option_copied};
 ghost use Rattle.pc_shards.specs.declared.part.EntryRef.{EntryRef};
 ghost use Rattle.pc_shards.specs.Entries.{with_busy, without};
-ghost use Rattle.pc_shards.specs.Part.{EachAt, offsets_of, plain_entries};
-ghost use Rattle.pc_shards.specs.Rising.{In, Rises};
+ghost use Rattle.pc_shards.specs.Part.{EachAt, Holds, plain_entries};
+ghost use Rattle.pc_shards.specs.Rising.{Rises, but, put};
 
+use crate::rising;
 use std::alloc::{AllocError, Global};
 
 /// A polled, incomplete record.
@@ -74,10 +75,66 @@ impl<'a> Part<'a> {
         }
     }
 
+    /// Makes the offset busy, which is not ready then.
+    pub fn busy(&mut self, offset: u64)
+        requires { Holds offset self.old }
+        ensures entries { plain_entries self.new.entries.items
+            ≡ with_busy offset true (plain_entries self.old.entries.items) }
+        ensures ready { self.new.ready.items ≡ but offset self.old.ready.items }
+        ensures capacity { vec_capacity self.new.ready ≡ vec_capacity self.old.ready }
+    {
+        self.set_busy(offset, true);
+        rising::remove(&mut self.ready, offset);
+    }
+
+    /// Makes the offset free, which is ready then if it was busy.
+    pub fn free(&mut self, offset: u64)
+        requires holds { Holds offset self.old }
+        requires room { EachAt offset (plain_entries self.old.entries.items) (λ e. e.is_busy ≡ true)
+            → length self.old.ready.items < vec_capacity self.old.ready }
+        ensures entries { plain_entries self.new.entries.items
+            ≡ with_busy offset false (plain_entries self.old.entries.items) }
+        ensures ready { EachAt offset (plain_entries self.old.entries.items) (λ e. e.is_busy ≡ true)
+            → self.new.ready.items ≡ put offset self.old.ready.items }
+        ensures same { EachAt offset (plain_entries self.old.entries.items) (λ e. e.is_busy ≡ false)
+            → self.new.ready.items ≡ self.old.ready.items }
+        ensures capacity { vec_capacity self.new.ready ≡ vec_capacity self.old.ready }
+    {
+        if self.set_busy(offset, false) {
+            rising::insert(&mut self.ready, offset);
+        }
+    }
+
+    /// Takes the offset out, and gives its key.
+    pub fn take(&mut self, offset: u64) -> Option<&'a [u8]>
+        requires { Holds offset self.old }
+        ensures entries { plain_entries self.new.entries.items
+            ≡ without offset (plain_entries self.old.entries.items) }
+        ensures key { EachAt offset (plain_entries self.old.entries.items)
+            (λ e. e.key ≡ option_copied result) }
+        ensures ready { self.new.ready.items ≡ but offset self.old.ready.items }
+        ensures capacity { vec_capacity self.new.ready ≡ vec_capacity self.old.ready }
+    {
+        let at = self.place(offset);
+        let entry = self.entries.remove(at);
+        rising::remove(&mut self.ready, offset);
+        entry.key
+    }
+
+    /// Makes an offset ready, for which there is a place.
+    pub fn make_ready(&mut self, offset: u64)
+        requires rises { Rises self.old.ready.items }
+        requires room { length self.old.ready.items < vec_capacity self.old.ready }
+        ensures entries { self.new.entries ≡ self.old.entries }
+        ensures ready { self.new.ready.items ≡ put offset self.old.ready.items }
+        ensures capacity { vec_capacity self.new.ready ≡ vec_capacity self.old.ready }
+    {
+        rising::insert(&mut self.ready, offset);
+    }
+
     /// Where the offset's entry stands.
     fn place(&self, offset: u64) -> usize
-        requires rises { Rises (offsets_of (plain_entries self.now.entries.items)) }
-        requires has { In offset (offsets_of (plain_entries self.now.entries.items)) }
+        requires { Holds offset self.now }
         ensures within { result < length self.now.entries.items }
         ensures place { (d : EntryRef)
             → (slice_index_or self.now.entries.items result d).offset ≡ offset }
@@ -88,9 +145,8 @@ impl<'a> Part<'a> {
     }
 
     /// Makes the offset's entry busy or not, and tells what it was.
-    pub fn set_busy(&mut self, offset: u64, is_busy: bool) -> bool
-        requires rises { Rises (offsets_of (plain_entries self.old.entries.items)) }
-        requires has { In offset (offsets_of (plain_entries self.old.entries.items)) }
+    fn set_busy(&mut self, offset: u64, is_busy: bool) -> bool
+        requires { Holds offset self.old }
         ensures entries { plain_entries self.new.entries.items
             ≡ with_busy offset is_busy (plain_entries self.old.entries.items) }
         ensures was { EachAt offset (plain_entries self.old.entries.items)
@@ -101,19 +157,5 @@ impl<'a> Part<'a> {
         let entry = self.entries[at];
         self.entries[at] = EntryRef { is_busy, ..entry };
         entry.is_busy
-    }
-
-    /// Takes the offset's entry out, and gives its key.
-    pub fn take(&mut self, offset: u64) -> Option<&'a [u8]>
-        requires rises { Rises (offsets_of (plain_entries self.old.entries.items)) }
-        requires has { In offset (offsets_of (plain_entries self.old.entries.items)) }
-        ensures entries { plain_entries self.new.entries.items
-            ≡ without offset (plain_entries self.old.entries.items) }
-        ensures key { EachAt offset (plain_entries self.old.entries.items)
-            (λ e. e.key ≡ option_copied result) }
-        ensures ready { self.new.ready ≡ self.old.ready }
-    {
-        let at = self.place(offset);
-        self.entries.remove(at).key
     }
 }

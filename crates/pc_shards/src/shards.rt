@@ -10,7 +10,7 @@ ghost use Rattle.pc_shards.specs.Entries.{ChangesOnly, ChangesNothing, is_first_
 
 use crate::part::Part;
 use crate::queues::Queues;
-use crate::{rising, shard_key};
+use crate::shard_key;
 use pc_model::Order;
 use std::alloc::{AllocError, Global};
 use std::marker::Model;
@@ -70,8 +70,7 @@ impl<'a> Shards<'a> {
         make_room(&mut self.parts, self.alloc, part as usize)?;
         let shard = shard_key::of_record(self.order, part, offset, key);
         let is_first = self.queues.push(shard, offset)?;
-        let state = &mut self.parts[part as usize];
-        state.push(offset, key, is_first);
+        self.parts[part as usize].push(offset, key, is_first);
         Ok(())
     }
 
@@ -90,9 +89,7 @@ impl<'a> Shards<'a> {
         ensures busy { of_part self.new part ≡ with_busy offset true (of_part self.old part) }
         ensures others { ChangesOnly part self.old self.new }
     {
-        let state = &mut self.parts[part as usize];
-        state.set_busy(offset, true);
-        rising::remove(&mut state.ready, offset);
+        self.parts[part as usize].busy(offset);
     }
 
     /// Makes an offset ready again that is the first of its ordering key. Takes no memory.
@@ -101,10 +98,7 @@ impl<'a> Shards<'a> {
         ensures free { of_part self.new part ≡ with_busy offset false (of_part self.old part) }
         ensures others { ChangesOnly part self.old self.new }
     {
-        let state = &mut self.parts[part as usize];
-        if state.set_busy(offset, false) {
-            rising::insert(&mut state.ready, offset);
-        }
+        self.parts[part as usize].free(offset);
     }
 
     /// Takes out an offset that is the first of its ordering key, and is busy or not. The next of
@@ -116,10 +110,9 @@ impl<'a> Shards<'a> {
     {
         let state = &mut self.parts[part as usize];
         let key = state.take(offset);
-        rising::remove(&mut state.ready, offset);
         let shard = shard_key::of_record(self.order, part, offset, key);
         if let Some(next) = self.queues.pop(shard) {
-            rising::insert(&mut state.ready, next);
+            state.make_ready(next);
         }
     }
 
