@@ -2,7 +2,7 @@
 use Rattle.std.proofs.Common.{◌≡◌, ◌⊎◌, ℕ, zero, suc, ◌<◌, ◌≤◌, Bool, true, false, not, ◌==◌, List, [], ◌∷◌, ◌++◌, map, length, drop, get_or, set, slice_get, Option, Some, None, vec_capacity, refl, ap, sym, subst, inl, inr, ◌∙◌, arith}
 use Rattle.std.specs.Option.{option_map_or}
 use Rattle.std.proofs.lemmas.Bool.{cases_Bool, cases_lt}
-use Rattle.std.proofs.lemmas.Option.{slice_get_read, slice_get_past}
+use Rattle.std.proofs.lemmas.Option.{slice_get_past, slice_get_read, slice_get_within}
 use Rattle.pc_model.specs.declared.choices.Order.{Order}
 use Rattle.pc_model.specs.Next.{OrderingKey, same_key}
 use Rattle.indexmap.specs.IndexMap.{get_by}
@@ -14,7 +14,7 @@ use Rattle.pc_shards.specs.Part.{EachAt, Holds, IsPart, offsets_of, plain_entrie
 use Rattle.pc_shards.specs.Queues.{queue_of}
 use Rattle.pc_shards.specs.Rising.{In, Rises, but, put}
 use Rattle.pc_shards.specs.ShardKey.{is_same, part_of, plain_key}
-use Rattle.pc_shards.specs.Shards.{IsShards, all_entries, entries_at, ready_at, room_at}
+use Rattle.pc_shards.specs.Shards.{HasRoomAt, IsShards, KeepsParts, all_entries, entries_at, ready_at, room_at}
 use Rattle.pc_shards.proofs.Lists.{In-map, number-is, number-is_not}
 use Rattle.pc_shards.proofs.RisingLemmas.{Rises-filter}
 use Rattle.pc_shards.proofs.ShardKeyLemmas.{part_of-same, same_key-true}
@@ -103,25 +103,89 @@ more-room order p es ready places more is le = record {
   room = let room = is.room in omega (arith, room, le);
 }
 
--- where each part has what it had, and no less room
-pub shards-room : (order : Order) (queues : Queues) (parts more : List Part) → IsShards order queues parts
-    → ((p : ℕ) → entries_at more p ≡ entries_at parts p) → ((p : ℕ) → ready_at more p ≡ ready_at parts p)
-    → ((p : ℕ) → room_at parts p ≤ room_at more p) → IsShards order queues more
-shards-room order queues parts more is entries ready room = record {
-  each = λ p. subst (λ es. IsPart order p es (ready_at more p) (room_at more p)) (sym (entries p))
-      (subst (λ os. IsPart order p (entries_at parts p) os (room_at more p)) (sym (ready p))
-      (more-room order p (entries_at parts p) (ready_at parts p) (room_at parts p) (room_at more p)
-      (is.each p) (room p)));
-  queued = λ k. is.queued k ∙ ap (λ (es : List Entry). queue order (part_of k) es (plain_key k))
-      (sym (entries (part_of k)));
+pub keeps-same : (parts : List Part) → KeepsParts parts parts
+keeps-same parts = record { entries = λ p. refl; ready = λ p. refl; room = λ p. omega arith }
+
+pub keeps-more : (parts more most : List Part) → KeepsParts parts more → KeepsParts more most → KeepsParts parts most
+keeps-more parts more most k l = record {
+  entries = λ p. l.entries p ∙ k.entries p;
+  ready = λ p. l.ready p ∙ k.ready p;
+  room = λ p. let a = k.room p in let b = l.room p in omega (arith, a, b);
 }
 
-pub changes-nothing : (order : Order) (parts more : List Part)
-    → ((p : ℕ) → entries_at more p ≡ entries_at parts p)
+-- an empty part behind the others
+module _ (s : Part) (none : s.entries.items ≡ []) (idle : s.ready.items ≡ []) where
+  push-entries : (parts : List Part) (p : ℕ) → entries_at (parts ++ s ∷ []) p ≡ entries_at parts p
+  push-entries [] zero = ap plain_entries none
+  push-entries [] (suc p) = refl
+  push-entries (t ∷ parts) zero = refl
+  push-entries (t ∷ parts) (suc p) = push-entries parts p
+
+  push-ready : (parts : List Part) (p : ℕ) → ready_at (parts ++ s ∷ []) p ≡ ready_at parts p
+  push-ready [] zero = idle
+  push-ready [] (suc p) = refl
+  push-ready (t ∷ parts) zero = refl
+  push-ready (t ∷ parts) (suc p) = push-ready parts p
+
+  push-room : (parts : List Part) (p : ℕ) → room_at parts p ≤ room_at (parts ++ s ∷ []) p
+  push-room [] p = omega arith
+  push-room (t ∷ parts) zero = omega arith
+  push-room (t ∷ parts) (suc p) = push-room parts p
+
+  pub keeps-push : (parts : List Part) → KeepsParts parts (parts ++ s ∷ [])
+  keeps-push parts = record { entries = push-entries parts; ready = push-ready parts; room = push-room parts }
+
+-- a part with more room
+pub keeps-set : (parts : List Part) (i : ℕ) (s t : Part) → slice_get parts i ≡ Some s
+    → t.entries.items ≡ s.entries.items → t.ready.items ≡ s.ready.items
+    → vec_capacity s.ready ≤ vec_capacity t.ready → KeepsParts parts (set parts i t)
+keeps-set parts i s t own entries ready room = record {
+  entries = λ p. elim (cases_Bool (p == i)) [
+    | inl same ↦ let at : p ≡ i = number-is p i same in
+      ap (entries_at (set parts i t)) at ∙ ap entries_in here ∙ ap plain_entries entries
+      ∙ ap entries_in (sym own) ∙ ap (entries_at parts) (sym at)
+    | inr other ↦ ap entries_in (set-other parts i p t (number-is_not p i other))
+  ];
+  ready = λ p. elim (cases_Bool (p == i)) [
+    | inl same ↦ let at : p ≡ i = number-is p i same in
+      ap (ready_at (set parts i t)) at ∙ ap ready_in here ∙ ready
+      ∙ ap ready_in (sym own) ∙ ap (ready_at parts) (sym at)
+    | inr other ↦ ap ready_in (set-other parts i p t (number-is_not p i other))
+  ];
+  room = λ p. elim (cases_Bool (p == i)) [
+    | inl same ↦ let at : p ≡ i = number-is p i same in
+      let new : room_at (set parts i t) p ≡ vec_capacity t.ready = ap (room_at (set parts i t)) at ∙ ap room_in here in
+      let old : room_at parts p ≡ vec_capacity s.ready = ap (room_at parts) at ∙ ap room_in own in
+      omega (arith, new, old, room)
+    | inr other ↦ let same : room_at (set parts i t) p ≡ room_at parts p =
+        ap room_in (set-other parts i p t (number-is_not p i other)) in omega (arith, same)
+  ];
+}
+  where
+    ready_in : Option Part → List ℕ
+    ready_in o = option_map_or (λ s. s.ready.items) o []
+    room_in : Option Part → ℕ
+    room_in o = option_map_or (λ s. vec_capacity s.ready) o 0
+    here : slice_get (set parts i t) i ≡ Some t
+    here = set-here parts i t (slice_get_within parts i s own)
+
+-- where each part has what it had, and so do the queues
+pub shards-kept : (order : Order) (queues same : Queues) (parts more : List Part) → IsShards order queues parts
+    → KeepsParts parts more → ((k : ShardKey) → queue_of same k ≡ queue_of queues k) → IsShards order same more
+shards-kept order queues same parts more is keeps queued = record {
+  each = λ p. subst (λ es. IsPart order p es (ready_at more p) (room_at more p)) (sym (keeps.entries p))
+      (subst (λ os. IsPart order p (entries_at parts p) os (room_at more p)) (sym (keeps.ready p))
+      (more-room order p (entries_at parts p) (ready_at parts p) (room_at parts p) (room_at more p)
+      (is.each p) (keeps.room p)));
+  queued = λ k. queued k ∙ is.queued k ∙ ap (λ (es : List Entry). queue order (part_of k) es (plain_key k))
+      (sym (keeps.entries (part_of k)));
+}
+
+pub kept-nothing : (order : Order) (parts more : List Part) → KeepsParts parts more
     → ChangesNothing (view order parts) (view order more)
-changes-nothing order parts more entries = record {
+kept-nothing order parts more keeps = record {
   order = refl;
-  each = λ p. of-all more p ∙ entries p ∙ sym (of-all parts p);
+  each = λ p. of-all more p ∙ keeps.entries p ∙ sym (of-all parts p);
 }
 
 -- ---- an offset that is the first of its key

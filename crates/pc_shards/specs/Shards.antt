@@ -1,5 +1,5 @@
 -- The parts and the queues of the shards, and what holds of them.
-use Rattle.std.specs.Prelude.{ℕ, ◌≡◌, ◌<◌, length, vec_len, List, [], map, slice_get, slice_index_or, vec_capacity}
+use Rattle.std.specs.Prelude.{ℕ, ◌≡◌, ◌<◌, ◌≤◌, Some, length, vec_len, List, [], map, slice_get, vec_capacity}
 use Rattle.std.specs.Option.{option_map_or}
 use Rattle.pc_model.specs.declared.choices.Order.{Order}
 use Rattle.pc_shards.specs.declared.part.Part.{Part}
@@ -32,8 +32,14 @@ pub record IsShards (order : Order) (queues : Queues) (parts : List Part) : Type
   pub queued : (k : ShardKey) → queue_of queues k ≡ queue order (part_of k)
       (entries_at parts (part_of k)) (plain_key k)
 
--- that there is room for one more entry of the part, ready or not
+-- that each part has what it had, and no less room
+pub record KeepsParts (old new : List Part) : Type 0 where
+  pub entries : (p : ℕ) → entries_at new p ≡ entries_at old p
+  pub ready : (p : ℕ) → ready_at new p ≡ ready_at old p
+  pub room : (p : ℕ) → room_at old p ≤ room_at new p
+
+-- that there is a part at this place with room for one more entry, ready or not
 pub record HasRoomAt (p : ℕ) (parts : List Part) : Type 0 where
   pub within : p < length parts
-  pub entries : (d : Part) → vec_len (slice_index_or parts p d).entries < vec_capacity (slice_index_or parts p d).entries
-  pub ready : (d : Part) → vec_len (slice_index_or parts p d).entries < vec_capacity (slice_index_or parts p d).ready
+  pub entries : (s : Part) → slice_get parts p ≡ Some s → vec_len s.entries < vec_capacity s.entries
+  pub ready : (s : Part) → slice_get parts p ≡ Some s → vec_len s.entries < vec_capacity s.ready

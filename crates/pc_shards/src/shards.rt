@@ -4,8 +4,7 @@
 ghost use Rattle.std.specs.Prelude.{◌≡◌, ℕ, ◌<◌, ◌++◌, ◌∷◌, [], false, true, OnErr, OnOk};
 ghost use Rattle.std.specs.List.{All};
 ghost use Rattle.std.specs.Option.{option_copied};
-ghost use Rattle.std.specs.Prelude.{◌≤◌};
-ghost use Rattle.pc_shards.specs.Shards.{HasRoomAt, entries_at, ready_at, room_at};
+ghost use Rattle.pc_shards.specs.Shards.{HasRoomAt, KeepsParts};
 ghost use Rattle.pc_shards.specs.Entries.{ChangesOnly, ChangesNothing, is_first_offset, least_ready_of, of_part, with_busy, without};
 
 use crate::part::Part;
@@ -132,12 +131,10 @@ impl<'a> Shards<'a> {
 
 /// Makes room for one more entry of the part at this place.
 fn make_room<'a>(parts: &mut Vec<Part<'a>>, alloc: Global, at: usize) -> Result<(), AllocError>
-    ensures entries { (p : ℕ) → entries_at parts.new.items p ≡ entries_at parts.old.items p }
-    ensures ready { (p : ℕ) → ready_at parts.new.items p ≡ ready_at parts.old.items p }
-    ensures room { (p : ℕ) → room_at parts.old.items p ≤ room_at parts.new.items p }
+    ensures kept { KeepsParts parts.old.items parts.new.items }
     ensures made { OnOk result (HasRoomAt at parts.new.items) }
 {
-    while parts.as_slice().len() <= at {
+    'grow: while parts.as_slice().len() <= at {
         parts.push(Part::new(alloc))?;
     }
     parts[at].reserve()
