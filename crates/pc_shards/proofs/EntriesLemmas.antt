@@ -12,7 +12,7 @@ use Rattle.pc_shards.specs.Entries.{Entry, is_before, is_first, is_first_offset,
 use Rattle.pc_shards.specs.Part.{EachAt, IsPart, IsReady, offsets_of, queue}
 use Rattle.pc_shards.specs.Rising.{In, Rises, but, put}
 use Rattle.pc_shards.proofs.Lists.{In-append, In-append_left, In-append_right, In-filter, In-filtered, In-list_any, In-map, In-mapped, and-both, and-left, and-right, list_all-In, list_all-each, not-false, not-true, number-is, number-is_not, number-other, number-same, true-false}
-use Rattle.pc_shards.proofs.RisingLemmas.{In-but, In-put, In-some, Rises-filter, Rises-map-filter, Rises-push, Rises-put, but-In, but-head, but-none, head-In, head-is, head-low, least_of-first, least_of-none, length-but_one, put-In, some-In}
+use Rattle.pc_shards.proofs.RisingLemmas.{In-but, In-put, In-some, Rises-filter, Rises-map-filter, Rises-push, Rises-put, but-In, but-head, but-none, head-In, head-is, head-low, least_of-first, least_of-none, length-among, length-but_one, put-In, some-In}
 use Rattle.pc_shards.proofs.PartLemmas.{one-entry}
 use Rattle.pc_shards.proofs.ShardKeyLemmas.{same_key-is, same_key-true}
 
@@ -123,6 +123,14 @@ module _ (order : Order) (p : ℕ) (es : List Entry) where
   least_ready-first (o ∷ rest) places is = sym (least_of-first (ready_offsets order p es) o rest is.ready_rises
       (λ u i. ready-In u (is.sound u i)) (λ u i. is.whole u (In-ready u i)))
 
+-- not more are ready than there are entries
+pub ready-few : (order : Order) (p : ℕ) (es : List Entry) (ready : List ℕ) (places : ℕ)
+    → IsPart order p es ready places → length ready ≤ length es
+ready-few order p es ready places is =
+    let few = length-among ready (offsets_of es) is.ready_rises is.rises (λ u i. let r = is.sound u i in
+    rw (← r.at) (In-map (λ (y : Entry). y.offset) r.entry es r.has)) in
+    let len = length-map es (λ (y : Entry). y.offset) in omega (arith, few, len)
+
 -- what is first among entries is first among some of them
 pub first-some : (order : Order) (p : ℕ) (es fs : List Entry) (e : Entry) → ((q : Entry) → In q fs → In q es)
     → is_first order p es e ≡ true → is_first order p fs e ≡ true
@@ -146,7 +154,7 @@ module _ (order : Order) (p : ℕ) (es : List Entry) (e : Entry)
   first-pushed : (x : Entry) → is_first order p (es ++ e ∷ []) x ≡ true → is_first order p es x ≡ true
   first-pushed x first = first-some order p (es ++ e ∷ []) es x (λ q i. In-append_left q es (e ∷ []) i) first
 
-  queue-push : (k : OrderingKey) → queue order p (es ++ e ∷ []) k
+  pub queue-push : (k : OrderingKey) → queue order p (es ++ e ∷ []) k
       ≡ queue order p es k ++ cond (same_key k (key_of order p e)) (e.offset ∷ []) []
   queue-push k = pushed es
     where

@@ -1,25 +1,28 @@
 -- The parts and the queues, when one part changes.
-use Rattle.std.proofs.Common.{◌≡◌, ◌⊎◌, ℕ, zero, suc, ◌<◌, ◌≤◌, Bool, true, false, not, ◌==◌, List, [], ◌∷◌, ◌++◌, map, length, drop, get_or, set, slice_get, Option, Some, None, vec_capacity, refl, ap, sym, subst, inl, inr, ◌∙◌, arith}
-use Rattle.std.specs.Option.{option_map_or}
+use Rattle.std.proofs.Common.{◌≡◌, ◌⊎◌, ℕ, zero, suc, ◌<◌, ◌≤◌, Bool, true, false, not, ◌==◌, List, [], ◌∷◌, ◌++◌, map, length, drop, get_or, set, slice_get, cond, Bor, Option, Some, None, vec_capacity, vec_len, refl, ap, sym, subst, inl, inr, ◌∙◌, arith}
+use Rattle.std.specs.List.{All}
+use Rattle.std.specs.Option.{option_copied, option_map_or}
 use Rattle.std.proofs.lemmas.Bool.{cases_Bool, cases_lt}
-use Rattle.std.proofs.lemmas.Option.{slice_get_past, slice_get_read, slice_get_within}
+use Rattle.std.proofs.lemmas.List.{length-map}
+use Rattle.std.proofs.lemmas.Option.{slice_get_past, slice_get_read}
 use Rattle.pc_model.specs.declared.choices.Order.{Order}
 use Rattle.pc_model.specs.Next.{OrderingKey, same_key}
 use Rattle.indexmap.specs.IndexMap.{get_by}
+use Rattle.pc_shards.specs.declared.part.EntryRef.{EntryRef}
 use Rattle.pc_shards.specs.declared.part.Part.{Part}
 use Rattle.pc_shards.specs.declared.queues.Queues.{Queues}
 use Rattle.pc_shards.specs.declared.shard_key.ShardKey.{ShardKey}
 use Rattle.pc_shards.specs.Entries.{ChangesNothing, ChangesOnly, Entries, Entry, is_first, is_first_offset, key_of, of_part, with_busy, without}
-use Rattle.pc_shards.specs.Part.{EachAt, Holds, IsPart, offsets_of, plain_entries, queue}
+use Rattle.pc_shards.specs.Part.{EachAt, Holds, IsPart, offsets_of, plain, plain_entries, queue}
 use Rattle.pc_shards.specs.Queues.{queue_of}
 use Rattle.pc_shards.specs.Rising.{In, Rises, but, put}
 use Rattle.pc_shards.specs.ShardKey.{is_same, part_of, plain_key}
 use Rattle.pc_shards.specs.Shards.{HasRoomAt, IsShards, KeepsParts, all_entries, entries_at, ready_at, room_at}
 use Rattle.pc_shards.proofs.Lists.{In-map, number-is, number-is_not}
 use Rattle.pc_shards.proofs.RisingLemmas.{Rises-filter}
-use Rattle.pc_shards.proofs.ShardKeyLemmas.{part_of-same, same_key-true}
+use Rattle.pc_shards.proofs.ShardKeyLemmas.{part_of-same, same_key-is, same_key-sym, same_key-true}
 use Rattle.pc_shards.proofs.PartLemmas.{one-entry}
-use Rattle.pc_shards.proofs.EntriesLemmas.{busy-place, done-last, done-next, first-entry, made_busy, made_free, next-place, queue-done, queue-others, queue-with_busy, with_busy-same}
+use Rattle.pc_shards.proofs.EntriesLemmas.{added-behind, added-first, busy-place, done-last, done-next, first-entry, made_busy, made_free, next-place, queue-done, queue-others, queue-push, queue-with_busy, ready-few, with_busy-same}
 
 -- ---- what is at a place
 
@@ -102,72 +105,6 @@ more-room order p es ready places more is le = record {
   whole = is.whole;
   room = let room = is.room in omega (arith, room, le);
 }
-
-pub keeps-same : (parts : List Part) → KeepsParts parts parts
-keeps-same parts = record { entries = λ p. refl; ready = λ p. refl; room = λ p. omega arith }
-
-pub keeps-more : (parts more most : List Part) → KeepsParts parts more → KeepsParts more most → KeepsParts parts most
-keeps-more parts more most k l = record {
-  entries = λ p. l.entries p ∙ k.entries p;
-  ready = λ p. l.ready p ∙ k.ready p;
-  room = λ p. let a = k.room p in let b = l.room p in omega (arith, a, b);
-}
-
--- an empty part behind the others
-module _ (s : Part) (none : s.entries.items ≡ []) (idle : s.ready.items ≡ []) where
-  push-entries : (parts : List Part) (p : ℕ) → entries_at (parts ++ s ∷ []) p ≡ entries_at parts p
-  push-entries [] zero = ap plain_entries none
-  push-entries [] (suc p) = refl
-  push-entries (t ∷ parts) zero = refl
-  push-entries (t ∷ parts) (suc p) = push-entries parts p
-
-  push-ready : (parts : List Part) (p : ℕ) → ready_at (parts ++ s ∷ []) p ≡ ready_at parts p
-  push-ready [] zero = idle
-  push-ready [] (suc p) = refl
-  push-ready (t ∷ parts) zero = refl
-  push-ready (t ∷ parts) (suc p) = push-ready parts p
-
-  push-room : (parts : List Part) (p : ℕ) → room_at parts p ≤ room_at (parts ++ s ∷ []) p
-  push-room [] p = omega arith
-  push-room (t ∷ parts) zero = omega arith
-  push-room (t ∷ parts) (suc p) = push-room parts p
-
-  pub keeps-push : (parts : List Part) → KeepsParts parts (parts ++ s ∷ [])
-  keeps-push parts = record { entries = push-entries parts; ready = push-ready parts; room = push-room parts }
-
--- a part with more room
-pub keeps-set : (parts : List Part) (i : ℕ) (s t : Part) → slice_get parts i ≡ Some s
-    → t.entries.items ≡ s.entries.items → t.ready.items ≡ s.ready.items
-    → vec_capacity s.ready ≤ vec_capacity t.ready → KeepsParts parts (set parts i t)
-keeps-set parts i s t own entries ready room = record {
-  entries = λ p. elim (cases_Bool (p == i)) [
-    | inl same ↦ let at : p ≡ i = number-is p i same in
-      ap (entries_at (set parts i t)) at ∙ ap entries_in here ∙ ap plain_entries entries
-      ∙ ap entries_in (sym own) ∙ ap (entries_at parts) (sym at)
-    | inr other ↦ ap entries_in (set-other parts i p t (number-is_not p i other))
-  ];
-  ready = λ p. elim (cases_Bool (p == i)) [
-    | inl same ↦ let at : p ≡ i = number-is p i same in
-      ap (ready_at (set parts i t)) at ∙ ap ready_in here ∙ ready
-      ∙ ap ready_in (sym own) ∙ ap (ready_at parts) (sym at)
-    | inr other ↦ ap ready_in (set-other parts i p t (number-is_not p i other))
-  ];
-  room = λ p. elim (cases_Bool (p == i)) [
-    | inl same ↦ let at : p ≡ i = number-is p i same in
-      let new : room_at (set parts i t) p ≡ vec_capacity t.ready = ap (room_at (set parts i t)) at ∙ ap room_in here in
-      let old : room_at parts p ≡ vec_capacity s.ready = ap (room_at parts) at ∙ ap room_in own in
-      omega (arith, new, old, room)
-    | inr other ↦ let same : room_at (set parts i t) p ≡ room_at parts p =
-        ap room_in (set-other parts i p t (number-is_not p i other)) in omega (arith, same)
-  ];
-}
-  where
-    ready_in : Option Part → List ℕ
-    ready_in o = option_map_or (λ s. s.ready.items) o []
-    room_in : Option Part → ℕ
-    room_in o = option_map_or (λ s. vec_capacity s.ready) o 0
-    here : slice_get (set parts i t) i ≡ Some t
-    here = set-here parts i t (slice_get_within parts i s own)
 
 -- where each part has what it had, and so do the queues
 pub shards-kept : (order : Order) (queues same : Queues) (parts more : List Part) → IsShards order queues parts
@@ -296,7 +233,7 @@ pub view-changed : (order : Order) (parts : List Part) (i o : ℕ) (s t : Part) 
 view-changed order parts i o s t f change entries = view-set order parts i t f.within ∙ entries
     ∙ ap change (sym (found-view order parts i o s f))
 
--- ---- done
+-- ---- keys
 
 key_of-same : (order : Order) (p : ℕ) (e g : Entry) → e.offset ≡ g.offset → e.key ≡ g.key
     → key_of order p e ≡ key_of order p g
@@ -307,6 +244,8 @@ key_of-same order p e g offset key = ap (λ o. key_of order p (record { offset =
 queue_of-same : (queues : Queues) (k l : ShardKey) → plain_key k ≡ plain_key l → queue_of queues k ≡ queue_of queues l
 queue_of-same queues k l same = ap (λ (p : OrderingKey). option_map_or (λ queue. queue.items)
     (get_by (λ (j : ShardKey). same_key p (plain_key j)) queues.map) []) same
+
+-- ---- done
 
 module _ (order : Order) (queues more : Queues) (parts : List Part) (i o : ℕ) (s t : Part)
     (is : IsShards order queues parts) (f : IsFound order parts i o s)
@@ -393,3 +332,143 @@ module _ (order : Order) (queues more : Queues) (parts : List Part) (i o : ℕ) 
         f.part first_one.0 first_one.1 first_one.2 first_one.3 n own-head))
         (λ k at. queued-after k at ∙ ap (λ (es : List Entry). queue order i es (plain_key k)) (sym of_u))
         queued-others
+
+-- ---- add
+
+All-In : {X : Type 0} (P : X → Type 0) (x : X) (xs : List X) → All P xs → In x xs → P x
+All-In P x [] all i = elim i [ ]
+All-In P x (y ∷ ys) all (inl e) = subst P (sym e) (all zero y (omega arith))
+All-In P x (y ∷ ys) all (inr i) = All-In P x ys (λ k d h. all (suc k) d (omega arith)) i
+
+append-nil : {X : Type 0} (xs : List X) → xs ++ [] ≡ xs
+append-nil [] = refl
+append-nil (x ∷ xs) = ap (λ ys. x ∷ ys) (append-nil xs)
+
+some-number : (n : ℕ) → (n == 0) ≡ false → 0 < n
+some-number n e = elim (cases_lt 0 n) [
+  | inl lt ↦ lt
+  | inr le ↦ number-is_not n 0 e (omega arith)
+]
+
+plain-push : (es : List EntryRef) (e : EntryRef) → plain_entries (es ++ e ∷ []) ≡ plain_entries es ++ plain e ∷ []
+plain-push [] e = refl
+plain-push (x ∷ es) e = ap (λ xs. plain x ∷ xs) (plain-push es e)
+
+module _ (order : Order) (queues : Queues) (before parts : List Part) (i o : ℕ) (s : Part)
+    (was : IsShards order queues before) (kept : KeepsParts before parts) (made : HasRoomAt i parts)
+    (at : s ≡ get_or parts i s) where
+  own-part : slice_get parts i ≡ Some s
+  own-part = slice_get_read parts (length parts) i s refl made.within at
+
+  now : IsShards order queues parts
+  now = shards-kept order queues queues before parts was kept (λ k. refl)
+
+  own-state : IsPart order i (plain_entries s.entries.items) s.ready.items (vec_capacity s.ready)
+  own-state = subst (λ t. IsPartAt order i t) own-part (now.each i)
+
+  own-view : of_part (view order before) i ≡ plain_entries s.entries.items
+  own-view = of-all before i ∙ sym (kept.entries i) ∙ ap entries_in own-part
+
+  -- there is a place for one more entry
+  pub add-places : vec_len s.entries < vec_capacity s.entries
+  add-places = made.entries s own-part
+
+  -- and for its offset
+  pub add-room : vec_len s.ready < vec_capacity s.ready
+  add-room =
+      let few = ready-few order i (plain_entries s.entries.items) s.ready.items (vec_capacity s.ready) own-state in
+      let count = length-map s.entries.items plain in
+      let room = made.ready s own-part in
+      let all = s.entries.ok.0 in
+      let some = s.ready.ok.0 in omega (arith, few, count, room, all, some)
+
+  module _ (bytes : Option (Bor (List ℕ))) (t : Part)
+      (entries : t.entries.items ≡ s.entries.items ++ record { offset = o; key = bytes; is_busy = false } ∷ []) where
+    new-entries : plain_entries t.entries.items ≡ plain_entries s.entries.items
+        ++ record { offset = o; key = option_copied bytes; is_busy = false } ∷ []
+    new-entries = ap plain_entries entries ∙ plain-push s.entries.items
+        (record { offset = o; key = bytes; is_busy = false })
+
+    pub added-view : of_part (view order (set parts i t)) i ≡ of_part (view order before) i
+        ++ record { offset = o; key = option_copied bytes; is_busy = false } ∷ []
+    added-view = view-set order parts i t made.within ∙ new-entries
+        ∙ ap (λ es. es ++ record { offset = o; key = option_copied bytes; is_busy = false } ∷ []) (sym own-view)
+
+    pub added-others : ChangesOnly i (view order before) (view order (set parts i t))
+    added-others = record {
+      order = refl;
+      others = λ p other. (changes-set order parts i t).others p other ∙ of-all parts p ∙ kept.entries p
+          ∙ sym (of-all before p);
+    }
+
+    module _ (more : Queues) (shard : ShardKey) (first : Bool)
+        (above : All (λ e. e.offset < o) (of_part (view order before) i))
+        (ready : t.ready.items ≡ cond first (s.ready.items ++ o ∷ []) s.ready.items)
+        (room : vec_capacity t.ready ≡ vec_capacity s.ready)
+        (of_shard : plain_key shard ≡ key_of order i (record { offset = o; key = option_copied bytes; is_busy = false }))
+        (in_part : part_of shard ≡ i)
+        (is_first : first ≡ (length (queue_of queues shard) == 0))
+        (pushed : queue_of more shard ≡ queue_of queues shard ++ o ∷ [])
+        (others : (k : ShardKey) → is_same shard k ≡ false → queue_of more k ≡ queue_of queues k) where
+      abbrev entry : Entry
+      entry = record { offset = o; key = option_copied bytes; is_busy = false }
+
+      abbrev es : List Entry
+      es = plain_entries s.entries.items
+
+      below : (q : Entry) → In q es → q.offset < entry.offset
+      below q j = All-In (λ e. e.offset < o) q es (subst (λ xs. All (λ e. e.offset < o) xs) own-view above) j
+
+      queued-now : (k : ShardKey) → part_of k ≡ i → queue_of queues k ≡ queue order i es (plain_key k)
+      queued-now k same = now.queued k ∙ ap (λ q. queue order q (entries_at parts q) (plain_key k)) same
+          ∙ ap (λ (u : Option Part). queue order i (entries_in u) (plain_key k)) own-part
+
+      queued-length : length (queue order i es (key_of order i entry)) ≡ length (queue_of queues shard)
+      queued-length = ap length (ap (queue order i es) (sym of_shard) ∙ sym (queued-now shard in_part))
+
+      queued-more : (k : ShardKey) → part_of k ≡ i → queue_of more k ≡ queue order i (es ++ entry ∷ []) (plain_key k)
+      queued-more k same = elim (cases_Bool (is_same shard k)) [
+        | inl own ↦ let keys : plain_key shard ≡ plain_key k = same_key-true (plain_key shard) (plain_key k) own in
+          queue_of-same more k shard (sym keys) ∙ pushed
+          ∙ ap (λ (xs : List ℕ). xs ++ o ∷ []) (queue_of-same queues shard k keys ∙ queued-now k same)
+          ∙ sym (queue-push order i es entry below (plain_key k)
+            ∙ ap (λ b. queue order i es (plain_key k) ++ cond b (o ∷ []) [])
+            (same_key-is (plain_key k) (key_of order i entry) (sym keys ∙ of_shard)))
+        | inr other ↦ others k other ∙ queued-now k same
+          ∙ sym (queue-push order i es entry below (plain_key k)
+            ∙ ap (λ b. queue order i es (plain_key k) ++ cond b (o ∷ []) [])
+            (same_key-sym (plain_key k) (key_of order i entry)
+            ∙ ap (λ l. same_key l (plain_key k)) (sym of_shard) ∙ other)
+            ∙ append-nil (queue order i es (plain_key k)))
+      ]
+
+      queued-apart : (k : ShardKey) → (part_of k == i) ≡ false → queue_of more k ≡ queue_of queues k
+      queued-apart k other = others k (elim (cases_Bool (is_same shard k)) [
+        | inl same ↦ number-is_not (part_of k) i other (sym (part_of-same shard k same) ∙ in_part)
+        | inr apart ↦ apart
+      ])
+
+      fits : length es < vec_capacity s.ready
+      fits = let count = length-map s.entries.items plain in
+          let places = made.ready s own-part in
+          let all = s.entries.ok.0 in omega (arith, count, places, all)
+
+      new-state : IsPart order i (plain_entries t.entries.items) t.ready.items (vec_capacity t.ready)
+      new-state = subst (λ xs. IsPart order i xs t.ready.items (vec_capacity t.ready)) (sym new-entries)
+          (subst (λ n. IsPart order i (es ++ entry ∷ []) t.ready.items n) (sym room)
+          (elim (cases_Bool first) [
+            | inl alone ↦ subst (λ os. IsPart order i (es ++ entry ∷ []) os (vec_capacity s.ready))
+              (sym (ready ∙ ap (λ b. cond b (s.ready.items ++ o ∷ []) s.ready.items) alone))
+              (added-first order i es entry below s.ready.items (vec_capacity s.ready) (vec_capacity s.ready)
+              own-state refl (queued-length ∙ number-is (length (queue_of queues shard)) 0 (sym is_first ∙ alone)) fits)
+            | inr behind ↦ subst (λ os. IsPart order i (es ++ entry ∷ []) os (vec_capacity s.ready))
+              (sym (ready ∙ ap (λ b. cond b (s.ready.items ++ o ∷ []) s.ready.items) behind))
+              (added-behind order i es entry below s.ready.items (vec_capacity s.ready) (vec_capacity s.ready)
+              own-state refl (rw queued-length (some-number (length (queue_of queues shard))
+              (sym is_first ∙ behind))) fits)
+          ]))
+
+      pub shards-added : IsShards order more (set parts i t)
+      shards-added = shards-set order queues more parts i t made.within now new-state
+          (λ k same. queued-more k same ∙ ap (λ xs. queue order i xs (plain_key k)) (sym new-entries))
+          queued-apart
