@@ -5,3 +5,4 @@ pub mod QueuesLemmas
 pub mod PartLemmas
 pub mod EntriesLemmas
 pub mod ShardsLemmas
+pub mod OpenEntriesLaws

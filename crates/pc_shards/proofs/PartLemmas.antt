@@ -1,10 +1,9 @@
 -- The entry at an offset: where it stands, and what is left when it is changed or taken out.
-use Rattle.std.proofs.Common.{◌≡◌, ◌⊎◌, ℕ, zero, suc, ◌+◌, ◌<◌, ◌≤◌, Bool, true, false, not, ◌==◌, cond, List, [], ◌∷◌, map, length, get_or, set, Option, refl, ap, sym, subst, inl, inr, ◌∙◌, arith}
-use Rattle.std.specs.Prelude.{filter, remove}
+use Rattle.std.proofs.Common.{◌≡◌, ℕ, zero, suc, ◌<◌, ◌≤◌, Bool, true, false, not, ◌==◌, List, [], ◌∷◌, map, length, get_or, set, refl, ap, sym, subst, inl, inr, ◌∙◌, arith}
+use Rattle.std.specs.Prelude.{remove}
 use Rattle.std.specs.List.{AllWithin}
-use Rattle.std.proofs.lemmas.Bool.{cases_lt}
 use Rattle.pc_shards.specs.declared.part.EntryRef.{EntryRef}
-use Rattle.pc_shards.specs.Entries.{Entry, marked, with_busy, without}
+use Rattle.pc_shards.specs.Entries.{Entry, with_busy, without}
 use Rattle.pc_shards.specs.Part.{EachAt, offsets_of, plain, plain_entries}
 use Rattle.pc_shards.specs.Rising.{In, Rises}
 use Rattle.pc_shards.proofs.Lists.{AllByRecursion-In, In-map, In-mapped, filter-all, not-false, number-other, number-same, true-false}

@@ -1,11 +1,11 @@
 -- The queues after a change of the map.
-use Rattle.std.proofs.Common.{◌≡◌, ℕ, Bool, true, false, not, ◌==◌, cond, filter, List, [], ◌∷◌, slice_get, Bor, Option, Some, None, IsSome, is_some, refl, ap, sym, inl, inr, ◌∙◌, arith}
+use Rattle.std.proofs.Common.{◌≡◌, ℕ, Bool, true, false, not, ◌==◌, cond, filter, List, [], ◌∷◌, slice_get, Bor, Option, Some, None, is_some, refl, ap, sym, inl, inr, ◌∙◌, arith}
 use Rattle.std.specs.Map.{lookup}
 use Rattle.std.specs.Option.{option_copied, option_map_or}
 use Rattle.std.specs.Slice.{IsItemAt}
 use Rattle.std.proofs.lemmas.Bool.{cases_Bool}
 use Rattle.std.proofs.lemmas.Map.Entries.{lookup-filter-keys}
-use Rattle.indexmap.specs.IndexMap.{IndexMap, get_by, UpdatesBy, WritesThrough}
+use Rattle.indexmap.specs.IndexMap.{IndexMap, get_by, UpdatesBy}
 use Rattle.pc_shards.specs.declared.shard_key.ShardKey.{ShardKey}
 use Rattle.pc_shards.specs.contracts.shard_key.ShardKeyPartialEq.TheImpl as key_eq
 use Rattle.pc_shards.specs.ShardKey.{is_same, part_of, plain_key}

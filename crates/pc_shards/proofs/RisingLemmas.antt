@@ -1,14 +1,14 @@
 -- Rising numbers: one more, one less, how many there are, and the least.
-use Rattle.std.proofs.Common.{◌≡◌, ◌⊎◌, ℕ, zero, suc, ◌+◌, ◌-◌, ◌<◌, ◌≤◌, min, Bool, true, false, not, ◌==◌, cond, List, [], ◌∷◌, ◌++◌, map, length, take, drop, get_or, leb, Option, Some, None, refl, ap, sym, subst, inl, inr, ◌∙◌, arith}
+use Rattle.std.proofs.Common.{◌≡◌, ◌⊎◌, ℕ, zero, suc, ◌<◌, ◌≤◌, min, Bool, true, false, not, ◌==◌, cond, List, [], ◌∷◌, ◌++◌, map, length, drop, get_or, leb, Some, None, refl, ap, sym, subst, inl, inr, arith}
 use Rattle.std.specs.Prelude.{filter, insert, remove, slice_get}
-use Rattle.std.specs.List.{AllByRecursion, AllWithin}
+use Rattle.std.specs.List.{AllWithin}
 use Rattle.std.specs.List.Sorted.{IsNonDecreasingBy}
 use Rattle.std.specs.Option.{option_map_or}
-use Rattle.std.proofs.lemmas.Bool.{cases_Bool, cases_lt}
+use Rattle.std.proofs.lemmas.Bool.{cases_lt}
 use Rattle.std.proofs.lemmas.Bool.Decides.{nat_tests}
 use Rattle.pc_model.specs.Numbers.{least_of}
 use Rattle.pc_shards.specs.Rising.{In, Rises, but, put}
-use Rattle.pc_shards.proofs.Lists.{AllByRecursion-In, AllByRecursion-each, In-append, In-map, In-mapped, In-filter, In-filtered, filter-all, number-same, number-other, number-is, number-is_not, not-false, not-true}
+use Rattle.pc_shards.proofs.Lists.{AllByRecursion-In, AllByRecursion-each, In-append, In-map, In-mapped, In-filter, In-filtered, filter-all, number-same, not-false, not-true}
 
 le-true : (m n : ℕ) → m ≤ n → leb m n ≡ true
 le-true m n h = grind (arith, nat_tests)

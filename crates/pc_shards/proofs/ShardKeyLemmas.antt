@@ -1,5 +1,5 @@
 -- Ordering keys, and those with lent bytes.
-use Rattle.std.proofs.Common.{◌≡◌, ℕ, Bool, true, false, ◌==◌, List, Option, Some, None, refl, ap, sym, subst, ◌∙◌}
+use Rattle.std.proofs.Common.{◌≡◌, ℕ, true, ◌==◌, List, Option, Some, None, refl, ap, sym, subst, ◌∙◌}
 use Rattle.std.proofs.lemmas.Slice.Eq.{bytes_eq-Decides}
 use Rattle.pc_model.specs.Next.{OrderingKey, same_key, same_bytes}
 use Rattle.pc_model.specs.Next.OrderingKey.{OfRecord, OfPart, OfKey}

@@ -1,5 +1,5 @@
 -- The parts and the queues, when one part changes.
-use Rattle.std.proofs.Common.{◌≡◌, ◌⊎◌, ℕ, zero, suc, ◌<◌, ◌≤◌, Bool, true, false, not, ◌==◌, List, [], ◌∷◌, ◌++◌, map, length, drop, get_or, set, slice_get, cond, Bor, Option, Some, None, vec_capacity, vec_len, refl, ap, sym, subst, inl, inr, ◌∙◌, arith}
+use Rattle.std.proofs.Common.{◌≡◌, ◌⊎◌, ℕ, zero, suc, ◌<◌, ◌≤◌, Bool, true, false, not, ◌==◌, List, [], ◌∷◌, ◌++◌, length, drop, get_or, set, slice_get, cond, Bor, Option, Some, None, vec_capacity, vec_len, refl, ap, sym, subst, inl, inr, ◌∙◌, arith}
 use Rattle.std.specs.List.{All}
 use Rattle.std.specs.Option.{option_copied, option_map_or}
 use Rattle.std.proofs.lemmas.Bool.{cases_Bool, cases_lt}
@@ -13,7 +13,7 @@ use Rattle.pc_shards.specs.declared.part.Part.{Part}
 use Rattle.pc_shards.specs.declared.queues.Queues.{Queues}
 use Rattle.pc_shards.specs.declared.shard_key.ShardKey.{ShardKey}
 use Rattle.pc_shards.specs.Entries.{ChangesNothing, ChangesOnly, Entries, Entry, is_first, is_first_offset, key_of, of_part, with_busy, without}
-use Rattle.pc_shards.specs.Part.{EachAt, Holds, IsPart, offsets_of, plain, plain_entries, queue}
+use Rattle.pc_shards.specs.Part.{EachAt, Holds, IsPart, plain, plain_entries, queue}
 use Rattle.pc_shards.specs.Queues.{queue_of}
 use Rattle.pc_shards.specs.Rising.{In, Rises, but, put}
 use Rattle.pc_shards.specs.ShardKey.{is_same, part_of, plain_key}

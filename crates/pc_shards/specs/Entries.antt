@@ -1,11 +1,12 @@
 -- The polled, incomplete records of the parts, and which of them may be dispatched by the ordering
 -- keys.
-use Rattle.std.specs.Prelude.{ℕ, pos, ◌≡◌, Bool, false, not, ◌&&◌, ◌==◌, nat_lt, if◌then◌else◌, List, map, filter, [], slice_index_or, Option, None}
+use Rattle.std.specs.Prelude.{ℕ, pos, ◌≡◌, Bool, true, false, not, ◌&&◌, ◌==◌, nat_lt, if◌then◌else◌, List, map, filter, [], slice_index_or, Option, None}
 use Rattle.std.specs.List.{list_any, list_all}
 use Rattle.pc_model.specs.declared.choices.Order.{Order}
 use Rattle.pc_model.specs.Record.{Record}
 use Rattle.pc_model.specs.Numbers.{least_of}
 use Rattle.pc_model.specs.Next.{OrderingKey, ordering_key, same_key}
+use Rattle.pc_shards.specs.Rising.{In}
 
 -- a record that was polled and is incomplete: its offset, its key's bytes, and whether it is busy
 pub record Entry : Type 0 where
@@ -63,6 +64,10 @@ with_busy o b es = map (marked o b) es
 -- the entries without those at the offset
 abbrev pub without : ℕ → List Entry → List Entry
 without o es = filter (λ e. not (e.offset == o)) es
+
+-- that of an ordering key at most the first is busy
+abbrev pub BusyAreFirst : Order → ℕ → List Entry → Type 0
+BusyAreFirst order p es = (e : Entry) → In e es → e.is_busy ≡ true → is_first order p es e ≡ true
 
 -- that nothing changed but the entries of the part
 pub record ChangesOnly (p : ℕ) (old new : Entries) : Type 0 where

@@ -4,3 +4,4 @@ pub mod Rising
 pub mod Part
 pub mod Queues
 pub mod Shards
+pub mod OpenEntries

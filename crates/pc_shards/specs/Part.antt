@@ -1,11 +1,11 @@
 -- The entries of a part with lent bytes, and what holds of the state of a part.
-use Rattle.std.specs.Prelude.{ℕ, ◌≡◌, ◌≤◌, Bool, true, false, List, map, filter, length}
+use Rattle.std.specs.Prelude.{ℕ, ◌≡◌, ◌≤◌, true, false, List, map, filter, length}
 use Rattle.std.specs.Option.{option_copied}
 use Rattle.pc_model.specs.declared.choices.Order.{Order}
 use Rattle.pc_model.specs.Next.{OrderingKey, same_key}
 use Rattle.pc_shards.specs.declared.part.EntryRef.{EntryRef}
 use Rattle.pc_shards.specs.declared.part.Part.{Part}
-use Rattle.pc_shards.specs.Entries.{Entry, is_first, key_of}
+use Rattle.pc_shards.specs.Entries.{BusyAreFirst, Entry, is_first, key_of}
 use Rattle.pc_shards.specs.Rising.{In, Rises}
 
 -- the entry whose key's bytes are lent
@@ -46,7 +46,7 @@ pub record IsReady (order : Order) (p : ℕ) (es : List Entry) (o : ℕ) : Type 
 -- busy, the ready offsets are those that are ready, and there is a place for each entry
 pub record IsPart (order : Order) (p : ℕ) (es : List Entry) (ready : List ℕ) (places : ℕ) : Type 0 where
   pub rises : Rises (offsets_of es)
-  pub firsts : (e : Entry) → In e es → e.is_busy ≡ true → is_first order p es e ≡ true
+  pub firsts : BusyAreFirst order p es
   pub ready_rises : Rises ready
   pub sound : (o : ℕ) → In o ready → IsReady order p es o
   pub whole : (o : ℕ) → IsReady order p es o → In o ready

@@ -1,5 +1,5 @@
 -- The queues of offsets.
-use Rattle.std.specs.Prelude.{ℕ, List, [], Option}
+use Rattle.std.specs.Prelude.{ℕ, List, []}
 use Rattle.std.specs.Option.{option_map_or}
 use Rattle.indexmap.specs.IndexMap.{get_by}
 use Rattle.pc_shards.specs.declared.shard_key.ShardKey.{ShardKey}

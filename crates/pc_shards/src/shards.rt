@@ -5,7 +5,7 @@ ghost use Rattle.std.specs.Prelude.{◌≡◌, ℕ, ◌<◌, ◌++◌, ◌∷◌
 ghost use Rattle.std.specs.List.{All};
 ghost use Rattle.std.specs.Option.{option_copied};
 ghost use Rattle.pc_shards.specs.Shards.{HasRoomAt, KeepsParts};
-ghost use Rattle.pc_shards.specs.Entries.{ChangesOnly, ChangesNothing, is_first_offset, least_ready_of, of_part, with_busy, without};
+ghost use Rattle.pc_shards.specs.Entries.{BusyAreFirst, ChangesNothing, ChangesOnly, is_first_offset, least_ready_of, of_part, with_busy, without};
 
 use crate::part::Part;
 use crate::queues::Queues;
@@ -73,9 +73,11 @@ impl<'a> Shards<'a> {
         Ok(())
     }
 
-    /// The least offset of the part that is the first of its ordering key and not busy.
+    /// The least offset of the part that is the first of its ordering key and not busy. Of an
+    /// ordering key no other than the first is busy.
     pub fn least_ready(&self, part: u32) -> Option<u64>
-        ensures { result ≡ least_ready_of self.now.order part (of_part self.now part) }
+        ensures least { result ≡ least_ready_of self.now.order part (of_part self.now part) }
+        ensures singly { BusyAreFirst self.now.order part (of_part self.now part) }
     {
         let state = self.parts.as_slice().get(part as usize)?;
         state.ready.as_slice().first().copied()

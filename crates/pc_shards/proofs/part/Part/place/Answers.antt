@@ -1,5 +1,5 @@
 -- The first entry that is not below the offset is at it.
-use Rattle.std.proofs.Common.{◌≡◌, ◌<◌, ℕ, ltb, length, get_or, rules, sym, subst, List}
+use Rattle.std.proofs.Common.{◌≡◌, ◌<◌, ltb, length, get_or, rules, sym, subst, List}
 use Rattle.std.proofs.lemmas.Bool.{ltb-true, ltb-false}
 use Rattle.std.proofs.lemmas.List.Sorted.{IsPartitionPoint-from_clause, IsPartitionedBy-ltb}
 use Rattle.pc_shards.specs.declared.part.EntryRef.{EntryRef}

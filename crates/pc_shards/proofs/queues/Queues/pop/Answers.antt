@@ -1,6 +1,6 @@
 -- Only the queue of the key changes, and it is taken out where it is empty.
 use Rattle.std.proofs.Common.{◌≡◌, ℕ, List, drop, slice_get, Option, Some, None, is_some, false, sym, ap, ◌∙◌}
-use Rattle.pc_shards.proofs.QueuesLemmas.{empty-first, front-first, look, look-found, look-others, look-updated}
+use Rattle.pc_shards.proofs.QueuesLemmas.{empty-first, front-first, look-found, look-others, look-updated}
 use Rattle.pc_shards.proofs.queues.Queues.pop.Goals as goal
 
 pub returns-else-is_none-clause-next : goal.returns-else-is_none-clause-next

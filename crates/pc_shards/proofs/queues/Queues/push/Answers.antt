@@ -1,5 +1,5 @@
 -- Only the queue of the key changes.
-use Rattle.std.proofs.Common.{◌≡◌, ℕ, List, Some, is_some, sym, ap, ◌∙◌}
+use Rattle.std.proofs.Common.{Some, is_some, sym, ap, ◌∙◌}
 use Rattle.pc_shards.proofs.Lists.{on_err}
 use Rattle.pc_shards.proofs.QueuesLemmas.{look, look-found, look-others, look-stays}
 use Rattle.pc_shards.proofs.queues.Queues.push.Goals as goal

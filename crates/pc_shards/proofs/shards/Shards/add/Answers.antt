@@ -1,5 +1,4 @@
 -- The part's state is that of the entries and one more, which is ready where it is alone.
-use Rattle.std.proofs.Common.{sym}
 use Rattle.pc_shards.proofs.Lists.{on_err}
 use Rattle.pc_shards.proofs.ShardsLemmas.{add-places, add-room, added-others, added-view, kept-nothing, shards-added}
 use Rattle.pc_shards.proofs.shards.Shards.add.Goals as goal

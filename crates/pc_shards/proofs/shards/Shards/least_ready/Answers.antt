@@ -3,14 +3,14 @@ use Rattle.std.proofs.Common.{◌≡◌, ℕ, List, [], Option, Some, length, sl
 use Rattle.std.specs.Option.{option_map_or}
 use Rattle.std.proofs.lemmas.Option.{slice_get_read}
 use Rattle.pc_shards.specs.declared.part.Part.{Part}
-use Rattle.pc_shards.specs.Entries.{Entry, least_ready_of}
+use Rattle.pc_shards.specs.Entries.{least_ready_of}
 use Rattle.pc_shards.specs.Shards.{entries_at, ready_at, room_at}
 use Rattle.pc_shards.proofs.EntriesLemmas.{least_ready-first}
 use Rattle.pc_shards.proofs.ShardsLemmas.{of-all}
 use Rattle.pc_shards.proofs.shards.Shards.least_ready.Goals as goal
 
-pub returns : goal.returns
-returns c =
+pub returns-clause-least : goal.returns-clause-least
+returns-clause-least c =
     let parts = c.self.inside.parts.items in
     let found = c.in_ok-state.ensures.lookup in
     let state : slice_get parts c.args.part ≡ Some c.in_ok-state.state.now =
