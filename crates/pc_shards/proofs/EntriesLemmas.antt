@@ -275,7 +275,7 @@ module _ (order : Order) (p : ℕ) (es : List Entry) (e : Entry)
 
 -- ---- busy and free
 
-marked-offset : (o : ℕ) (b : Bool) (e : Entry) → (marked o b e).offset ≡ e.offset
+pub marked-offset : (o : ℕ) (b : Bool) (e : Entry) → (marked o b e).offset ≡ e.offset
 marked-offset o b e = elim (e.offset == o) as (λ c. (cond c (record
     { offset = e.offset; key = e.key; is_busy = b }) e).offset ≡ e.offset) [ true ↦ refl | false ↦ refl ]
 
@@ -307,7 +307,7 @@ queue-with_busy order p o b (e ∷ es) k = rw (marked-key order p o b e) (elim (
     ])
 
 module _ (order : Order) (p : ℕ) (es : List Entry) (o : ℕ) (b : Bool) where
-  first-marked : (e : Entry) → is_first order p es e ≡ true
+  pub first-marked : (e : Entry) → is_first order p es e ≡ true
       → is_first order p (with_busy o b es) (marked o b e) ≡ true
   first-marked e first = low-first order p (with_busy o b es) (marked o b e) (λ q i same.
       let m = In-mapped (marked o b) q es i in

@@ -4,5 +4,6 @@ pub mod ShardKeyLemmas
 pub mod QueuesLemmas
 pub mod PartLemmas
 pub mod EntriesLemmas
+pub mod EntriesLaws
 pub mod ShardsLemmas
 pub mod OpenEntriesLaws

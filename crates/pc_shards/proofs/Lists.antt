@@ -113,6 +113,12 @@ module _ {X : Type 0} where
     | inr r ↦ let m = In-list_any f ys r in (m.0, inr m.1, m.2)
   ]
 
+  pub list_any-In : (f : X → Bool) (x : X) (xs : List X) → In x xs → f x ≡ true → list_any f xs
+      ≡ true
+  list_any-In f x [] i e = elim i [ ]
+  list_any-In f x (y ∷ ys) (inl same) e = or-left (f y) (list_any f ys) (rw (← same) e)
+  list_any-In f x (y ∷ ys) (inr i) e = or-right (f y) (list_any f ys) (list_any-In f x ys i e)
+
   pub list_all-In : (f : X → Bool) (x : X) (xs : List X) → list_all f xs ≡ true → In x xs → f x
       ≡ true
   list_all-In f x [] e i = elim i [ ]
