@@ -1,5 +1,5 @@
 -- What callers cite of offsets that are the first of their ordering key.
-use Rattle.std.proofs.Common.{◌≡◌, ◌⊎◌, ℕ, min, Bool, true, ◌&&◌, ◌==◌, List, [], ◌∷◌, Option, Some, None, refl, sym, subst, inl, inr, ◌∙◌, arith}
+use Rattle.std.proofs.Common.{◌≡◌, ℕ, min, Bool, true, ◌&&◌, ◌==◌, List, [], ◌∷◌, Some, refl, sym, subst, inl, inr, ◌∙◌, arith}
 use Rattle.std.specs.Option.{option_map_or}
 use Rattle.std.proofs.lemmas.Bool.{cases_lt}
 use Rattle.pc_model.specs.declared.choices.Order.{Order}

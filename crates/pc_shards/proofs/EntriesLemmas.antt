@@ -38,10 +38,10 @@ module _ (order : Order) (p : ℕ) (es : List Entry) where
       → key_of order p q ≡ key_of order p e → e.offset ≤ q.offset
   first-low e first q i same = elim (cases_lt q.offset e.offset) [
     | inl lt ↦ true-false (is_before order p q e)
-      (and-both (ltb q.offset e.offset) (same_key (key_of order p q) (key_of order p e))
-      (ltb-is q.offset e.offset lt) (same_key-is (key_of order p q) (key_of order p e) same))
-      (not-true (is_before order p q e)
-      (list_all-In (λ (x : Entry). not (is_before order p x e)) q es first i))
+        (and-both (ltb q.offset e.offset) (same_key (key_of order p q) (key_of order p e))
+        (ltb-is q.offset e.offset lt) (same_key-is (key_of order p q) (key_of order p e) same))
+        (not-true (is_before order p q e)
+        (list_all-In (λ (x : Entry). not (is_before order p x e)) q es first i))
     | inr le ↦ le
   ]
 
@@ -50,19 +50,22 @@ module _ (order : Order) (p : ℕ) (es : List Entry) where
   low-first e low = list_all-each (λ (x : Entry). not (is_before order p x e)) es (λ q i.
       not-false (is_before order p q e) (elim (cases_Bool (is_before order p q e)) [
         | inl t ↦ let le = low q i (same_key-true (key_of order p q) (key_of order p e)
-          (and-right (ltb q.offset e.offset) (same_key (key_of order p q) (key_of order p e)) t)) in
-          true-false (ltb q.offset e.offset)
-          (and-left (ltb q.offset e.offset) (same_key (key_of order p q) (key_of order p e)) t)
-          (ltb-not q.offset e.offset le)
+            (and-right (ltb q.offset e.offset) (same_key (key_of order p q) (key_of order p e)) t)) in
+            true-false (ltb q.offset e.offset)
+            (and-left (ltb q.offset e.offset) (same_key (key_of order p q) (key_of order p e)) t)
+            (ltb-not q.offset e.offset le)
         | inr f ↦ f
       ]))
 
   -- the entry of an offset that is the first of its key
   pub first-entry : (o : ℕ) → is_first_offset order p es o ≡ true
       → (e : Entry) × In e es × (e.offset ≡ o) × (is_first order p es e ≡ true)
-  first-entry o is = let m = In-list_any (λ (e : Entry). (e.offset == o) && is_first order p es e) es is in
-      (m.0, m.1, number-is m.0.offset o (and-left (m.0.offset == o) (is_first order p es m.0) m.2),
-        and-right (m.0.offset == o) (is_first order p es m.0) m.2)
+  first-entry o is = let m = In-list_any (λ (e : Entry). (e.offset == o) && is_first order p es e) es is in (
+    m.0,
+    m.1,
+    number-is m.0.offset o (and-left (m.0.offset == o) (is_first order p es m.0) m.2),
+    and-right (m.0.offset == o) (is_first order p es m.0) m.2,
+  )
 
   -- ---- the queue of a key
 
@@ -144,7 +147,7 @@ module _ (order : Order) (p : ℕ) (es : List Entry) (e : Entry)
     | inl k ↦ first-low order p es x first q k same
     | inr k ↦ elim k [
       | inl is ↦ let lt = above x i in
-        let at : q.offset ≡ e.offset = ap (λ (y : Entry). y.offset) is in omega (arith, lt, at)
+          let at : q.offset ≡ e.offset = ap (λ (y : Entry). y.offset) is in omega (arith, lt, at)
       | inr none ↦ elim none [ ]
     ]
   ])
@@ -177,14 +180,14 @@ module _ (order : Order) (p : ℕ) (es : List Entry) (e : Entry)
       → IsPart order p (es ++ e ∷ []) (ready ++ e.offset ∷ []) more
   added-first ready places more is free none room =
       let first : is_first order p (es ++ e ∷ []) e ≡ true = low-first order p (es ++ e ∷ []) e (λ q j same.
-          elim (In-append q es (e ∷ []) j) [
-            | inl k ↦ let some = In-some q.offset (queue order p es (key_of order p e))
-              (queue-In order p es (key_of order p e) q k (sym same)) in absurd (omega (arith, some, none))
-            | inr k ↦ elim k [
-              | inl at ↦ let at : q.offset ≡ e.offset = ap (λ (y : Entry). y.offset) at in omega (arith, at)
-              | inr no_more ↦ elim no_more [ ]
-            ]
-          ]) in
+      elim (In-append q es (e ∷ []) j) [
+        | inl k ↦ let some = In-some q.offset (queue order p es (key_of order p e))
+            (queue-In order p es (key_of order p e) q k (sym same)) in absurd (omega (arith, some, none))
+        | inr k ↦ elim k [
+          | inl at ↦ let at : q.offset ≡ e.offset = ap (λ (y : Entry). y.offset) at in omega (arith, at)
+          | inr no_more ↦ elim no_more [ ]
+        ]
+      ]) in
       record {
         rises = rises-push is.rises;
         firsts = λ x j busy. elim (In-append x es (e ∷ []) j) [
@@ -264,9 +267,9 @@ module _ (order : Order) (p : ℕ) (es : List Entry) (e : Entry)
             | inl at ↦ let le = first-low order p (es ++ e ∷ []) r.entry r.first q.0
                 (In-append_left q.0 es (e ∷ []) q.1)
                 (sym q.3 ∙ ap (key_of order p) (sym at)) in
-              let lt = above q.0 q.1 in
-              let here : r.entry.offset ≡ e.offset = ap (λ (y : Entry). y.offset) at in
-              absurd (omega (arith, le, lt, here))
+                let lt = above q.0 q.1 in
+                let here : r.entry.offset ≡ e.offset = ap (λ (y : Entry). y.offset) at in
+                absurd (omega (arith, le, lt, here))
             | inr no_more ↦ elim no_more [ ]
           ]
         ];
@@ -312,7 +315,7 @@ module _ (order : Order) (p : ℕ) (es : List Entry) (o : ℕ) (b : Bool) where
   first-marked e first = low-first order p (with_busy o b es) (marked o b e) (λ q i same.
       let m = In-mapped (marked o b) q es i in
       let keys : key_of order p m.0 ≡ key_of order p e = sym (marked-key order p o b m.0)
-          ∙ ap (key_of order p) (sym m.2) ∙ same ∙ marked-key order p o b e in
+      ∙ ap (key_of order p) (sym m.2) ∙ same ∙ marked-key order p o b e in
       let le = first-low order p es e first m.0 m.1 keys in
       let at : q.offset ≡ m.0.offset = ap (λ (y : Entry). y.offset) m.2 ∙ marked-offset o b m.0 in
       let here = marked-offset o b e in omega (arith, le, at, here))
@@ -321,7 +324,7 @@ module _ (order : Order) (p : ℕ) (es : List Entry) (o : ℕ) (b : Bool) where
       → is_first order p es e ≡ true
   first-unmarked e first = low-first order p es e (λ q i same.
       let keys : key_of order p (marked o b q) ≡ key_of order p (marked o b e) = marked-key order p o b q
-          ∙ same ∙ sym (marked-key order p o b e) in
+      ∙ same ∙ sym (marked-key order p o b e) in
       let le = first-low order p (with_busy o b es) (marked o b e) first (marked o b q)
       (In-map (marked o b) q es i) keys in
       let at = marked-offset o b q in
@@ -344,9 +347,9 @@ made_busy order p es ready places o is at_first =
       firsts = λ x i busy. let m = In-mapped (marked o true) x es i in
           rw m.2 (first-marked order p es o true m.0 (elim (cases_Bool (m.0.offset == o)) [
             | inl at ↦ rw (one-entry es is.rises m.0 f.0 m.1 f.1
-              (number-is m.0.offset o at ∙ sym f.2)) f.3
+                (number-is m.0.offset o at ∙ sym f.2)) f.3
             | inr off ↦ is.firsts m.0 m.1 (ap (λ (y : Entry). y.is_busy)
-              (sym (marked-off o true m.0 off) ∙ sym m.2) ∙ busy)
+                (sym (marked-off o true m.0 off) ∙ sym m.2) ∙ busy)
           ]));
       ready_rises = Rises-filter (λ x. not (x == o)) ready is.ready_rises;
       sound = λ u i. let j = In-but u o ready i in
@@ -363,14 +366,14 @@ made_busy order p es ready places o is at_first =
           elim (cases_Bool (m.0.offset == o)) [
             | inl at ↦ true-false r.entry.is_busy (ap (λ (y : Entry). y.is_busy) m.2 ∙ marked-at o true m.0 at) r.free
             | inr off ↦ let same : r.entry ≡ m.0 = m.2 ∙ marked-off o true m.0 off in
-              let at : m.0.offset ≡ u = ap (λ (y : Entry). y.offset) (sym same) ∙ r.at in
-              but-In u o ready (is.whole u (record {
-                entry = m.0;
-                has = m.1;
-                at = at;
-                first = first-unmarked order p es o true m.0 (rw (← m.2) r.first);
-                free = ap (λ (y : Entry). y.is_busy) (sym same) ∙ r.free;
-              })) (subst (λ n. (n == o) ≡ false) at off)
+                let at : m.0.offset ≡ u = ap (λ (y : Entry). y.offset) (sym same) ∙ r.at in
+                but-In u o ready (is.whole u (record {
+                  entry = m.0;
+                  has = m.1;
+                  at = at;
+                  first = first-unmarked order p es o true m.0 (rw (← m.2) r.first);
+                  free = ap (λ (y : Entry). y.is_busy) (sym same) ∙ r.free;
+                })) (subst (λ n. (n == o) ≡ false) at off)
           ];
       room = room-marked order p es o true places is.room;
     }
@@ -406,9 +409,9 @@ made_free order p es ready places o is at_first was =
       firsts = λ x i busy. let m = In-mapped (marked o false) x es i in
           rw m.2 (first-marked order p es o false m.0 (elim (cases_Bool (m.0.offset == o)) [
             | inl at ↦ rw (one-entry es is.rises m.0 f.0 m.1 f.1
-              (number-is m.0.offset o at ∙ sym f.2)) f.3
+                (number-is m.0.offset o at ∙ sym f.2)) f.3
             | inr off ↦ is.firsts m.0 m.1 (ap (λ (y : Entry). y.is_busy)
-              (sym (marked-off o false m.0 off) ∙ sym m.2) ∙ busy)
+                (sym (marked-off o false m.0 off) ∙ sym m.2) ∙ busy)
           ]));
       ready_rises = Rises-put o ready is.ready_rises (busy-apart order p es ready places o is was);
       sound = λ u i. elim (In-put u o ready i) [
@@ -433,15 +436,15 @@ made_free order p es ready places o is at_first was =
       whole = λ u r. let m = In-mapped (marked o false) r.entry es r.has in
           put-In u o ready (elim (cases_Bool (m.0.offset == o)) [
             | inl at ↦ inl (sym r.at ∙ ap (λ (y : Entry). y.offset) m.2 ∙ marked-offset o false m.0
-              ∙ number-is m.0.offset o at)
+                ∙ number-is m.0.offset o at)
             | inr off ↦ let same : r.entry ≡ m.0 = m.2 ∙ marked-off o false m.0 off in
-              inr (is.whole u (record {
-                entry = m.0;
-                has = m.1;
-                at = ap (λ (y : Entry). y.offset) (sym same) ∙ r.at;
-                first = first-unmarked order p es o false m.0 (rw (← m.2) r.first);
-                free = ap (λ (y : Entry). y.is_busy) (sym same) ∙ r.free;
-              }))
+                inr (is.whole u (record {
+                  entry = m.0;
+                  has = m.1;
+                  at = ap (λ (y : Entry). y.offset) (sym same) ∙ r.at;
+                  first = first-unmarked order p es o false m.0 (rw (← m.2) r.first);
+                  free = ap (λ (y : Entry). y.is_busy) (sym same) ∙ r.free;
+                }))
           ]);
       room = room-marked order p es o false places is.room;
     }
@@ -453,8 +456,8 @@ with_busy-same o b [] was = refl
 with_busy-same o b (e ∷ es) was =
     let here : marked o b e ≡ e = elim (cases_Bool (e.offset == o)) [
       | inl at ↦ ap (λ c. cond c (record { offset = e.offset; key = e.key; is_busy = b }) e) at
-        ∙ ap (λ (c : Bool). record { offset = e.offset; key = e.key; is_busy = c })
-        (sym (was e (inl refl) (number-is e.offset o at)))
+          ∙ ap (λ (c : Bool). record { offset = e.offset; key = e.key; is_busy = c })
+          (sym (was e (inl refl) (number-is e.offset o at)))
       | inr off ↦ marked-off o b e off
     ] in
     rw (here, with_busy-same o b es (λ x i at. was x (inr i) at)) refl
@@ -466,19 +469,19 @@ queue-without : (order : Order) (p o : ℕ) (es : List Entry) (k : OrderingKey)
 queue-without order p o [] k = refl
 queue-without order p o (e ∷ es) k = elim (cases_Bool (e.offset == o)) [
   | inl at ↦ rw at (elim (same_key k (key_of order p e)) as (λ s. queue order p (without o es) k
-    ≡ but o (offsets_of (cond s (e ∷ filter (λ y. same_key k (key_of order p y)) es)
-    (filter (λ y. same_key k (key_of order p y)) es)))) [
-      | true ↦ rw at (queue-without order p o es k)
-      | false ↦ queue-without order p o es k
-    ])
+      ≡ but o (offsets_of (cond s (e ∷ filter (λ y. same_key k (key_of order p y)) es)
+      (filter (λ y. same_key k (key_of order p y)) es)))) [
+        | true ↦ rw at (queue-without order p o es k)
+        | false ↦ queue-without order p o es k
+      ])
   | inr off ↦ rw off (elim (same_key k (key_of order p e)) as (λ s.
-    offsets_of (cond s (e ∷ filter (λ y. same_key k (key_of order p y)) (without o es))
-    (filter (λ y. same_key k (key_of order p y)) (without o es)))
-    ≡ but o (offsets_of (cond s (e ∷ filter (λ y. same_key k (key_of order p y)) es)
-    (filter (λ y. same_key k (key_of order p y)) es)))) [
-      | true ↦ rw off (ap (λ os. e.offset ∷ os) (queue-without order p o es k))
-      | false ↦ queue-without order p o es k
-    ])
+      offsets_of (cond s (e ∷ filter (λ y. same_key k (key_of order p y)) (without o es))
+      (filter (λ y. same_key k (key_of order p y)) (without o es)))
+      ≡ but o (offsets_of (cond s (e ∷ filter (λ y. same_key k (key_of order p y)) es)
+      (filter (λ y. same_key k (key_of order p y)) es)))) [
+        | true ↦ rw off (ap (λ os. e.offset ∷ os) (queue-without order p o es k))
+        | false ↦ queue-without order p o es k
+      ])
 ]
 
 module _ (order : Order) (p : ℕ) (es : List Entry) (ready : List ℕ) (places o : ℕ)
@@ -517,25 +520,27 @@ module _ (order : Order) (p : ℕ) (es : List Entry) (ready : List ℕ) (places 
       → IsReady order p (without o es) n × (In n ready → ⊥)
   next-entry n head =
       let q = In-queue order p (without o es) (key_of order p f) n
-          (head-In n (queue order p (without o es) (key_of order p f)) head) in
+      (head-In n (queue order p (without o es) (key_of order p f)) head) in
       let l = left q.0 q.1 in
       let low : is_first order p es q.0 ≡ true → ⊥ = λ fi.
-          let le = first-low order p es q.0 fi f has q.3 in
-          let ge = first-low order p es f first q.0 l.0 (sym q.3) in
-          number-is_not q.0.offset o l.1 (omega (arith, le, ge, at)) in
-      (record {
-        entry = q.0;
-        has = q.1;
-        at = sym q.2;
-        first = head-first order p (without o es) q.0 rises-left
-            (subst (λ k. slice_get (queue order p (without o es) k) 0 ≡ Some q.0.offset) q.3
-            (head ∙ ap Some q.2));
-        free = elim (cases_Bool q.0.is_busy) [
-          | inl busy ↦ absurd (low (is.firsts q.0 l.0 busy))
-          | inr free ↦ free
-        ];
-      }, λ i. let r = is.sound n i in
-        low (rw (one-entry es is.rises q.0 r.entry l.0 r.has (sym q.2 ∙ sym r.at)) r.first))
+      let le = first-low order p es q.0 fi f has q.3 in
+      let ge = first-low order p es f first q.0 l.0 (sym q.3) in
+      number-is_not q.0.offset o l.1 (omega (arith, le, ge, at)) in (
+        record {
+          entry = q.0;
+          has = q.1;
+          at = sym q.2;
+          first = head-first order p (without o es) q.0 rises-left
+              (subst (λ k. slice_get (queue order p (without o es) k) 0 ≡ Some q.0.offset) q.3
+              (head ∙ ap Some q.2));
+          free = elim (cases_Bool q.0.is_busy) [
+            | inl busy ↦ absurd (low (is.firsts q.0 l.0 busy))
+            | inr free ↦ free
+          ];
+        },
+        λ i. let r = is.sound n i in
+            low (rw (one-entry es is.rises q.0 r.entry l.0 r.has (sym q.2 ∙ sym r.at)) r.first),
+      )
 
   -- of the others, the ready ones stay so
   still : (u : ℕ) → In u (but o ready) → IsReady order p (without o es) u
@@ -555,16 +560,16 @@ module _ (order : Order) (p : ℕ) (es : List Entry) (ready : List ℕ) (places 
   was u r = let l = left r.entry r.has in
       elim (cases_Bool (same_key (key_of order p f) (key_of order p r.entry))) [
         | inl same ↦ let key = same_key-true (key_of order p f) (key_of order p r.entry) same in
-          inr (subst (λ k. slice_get (queue order p (without o es) k) 0 ≡ Some u) (sym key)
-          (first-head order p (without o es) r.entry rises-left r.has r.first ∙ ap Some r.at))
+            inr (subst (λ k. slice_get (queue order p (without o es) k) 0 ≡ Some u) (sym key)
+            (first-head order p (without o es) r.entry rises-left r.has r.first ∙ ap Some r.at))
         | inr other ↦ inl (but-In u o ready (is.whole u (record {
           entry = r.entry;
           has = l.0;
           at = r.at;
           first = low-first order p es r.entry (λ q i same. elim (cases_Bool (q.offset == o)) [
             | inl here ↦ true-false (same_key (key_of order p f) (key_of order p r.entry))
-              (same_key-is (key_of order p f) (key_of order p r.entry) (ap (key_of order p)
-              (one-entry es is.rises f q has i (at ∙ sym (number-is q.offset o here))) ∙ same)) other
+                (same_key-is (key_of order p f) (key_of order p r.entry) (ap (key_of order p)
+                (one-entry es is.rises f q has i (at ∙ sym (number-is q.offset o here))) ∙ same)) other
             | inr off ↦ first-low order p (without o es) r.entry r.first q (stays q i off) same
           ]);
           free = r.free;
@@ -602,10 +607,10 @@ module _ (order : Order) (p : ℕ) (es : List Entry) (ready : List ℕ) (places 
     next-place =
         let r = (next-entry n head).0 in
         let few = length-but_one n (but o ready) (offsets_of (without o es))
-            (Rises-filter (λ x. not (x == o)) ready is.ready_rises) rises-left
-            (λ u i. let s = still u i in rw (← s.at) (In-map (λ (y : Entry). y.offset) s.entry (without o es) s.has))
-            (rw (← r.at) (In-map (λ (y : Entry). y.offset) r.entry (without o es) r.has))
-            next-apart in
+        (Rises-filter (λ x. not (x == o)) ready is.ready_rises) rises-left
+        (λ u i. let s = still u i in rw (← s.at) (In-map (λ (y : Entry). y.offset) s.entry (without o es) s.has))
+        (rw (← r.at) (In-map (λ (y : Entry). y.offset) r.entry (without o es) r.has))
+        next-apart in
         let len = length-map (without o es) (λ (y : Entry). y.offset) in
         let room = room-left in omega (arith, few, len, room)
 

@@ -1,7 +1,7 @@
 -- Where the entries of a part are its polled, incomplete records, the ready ones are those that the
 -- definitions of eligible records say.
 use Rattle.std.proofs.Common.{◌≡◌, ℕ, Bool, true, false, not, ◌&&◌, ◌||◌, cond, List, [], ◌∷◌, map, refl, ap, ◌∙◌}
-use Rattle.std.specs.Prelude.{filter, nat_lt}
+use Rattle.std.specs.Prelude.{filter}
 use Rattle.std.specs.List.{list_all}
 use Rattle.pc_model.specs.declared.choices.Order.{Order}
 use Rattle.pc_model.specs.declared.choices.Order.TheVariants.{None as NoOrder, Partition, Key}
@@ -9,7 +9,7 @@ use Rattle.pc_model.specs.declared.event.Event.{Event}
 use Rattle.pc_model.specs.Record.{Record}
 use Rattle.pc_model.specs.Given.{Given}
 use Rattle.pc_model.specs.Known.{is_complete, polled_records}
-use Rattle.pc_model.specs.Next.{ordering_key, same_key, is_before as is_before_record, is_first as is_first_record}
+use Rattle.pc_model.specs.Next.{ordering_key, is_before as is_before_record, is_first as is_first_record}
 use Rattle.pc_shards.specs.Entries.{Entry, is_before, is_first, key_of, ready_offsets}
 use Rattle.pc_shards.specs.OpenEntries.{entry_of, open_entries}
 
@@ -38,14 +38,15 @@ module _ (given : Given) (h : List Event) (p : ℕ) (busy : Record → Bool) whe
       ≡ ((not (is_before_record given p q r) || c)
       && list_all (λ q. not (is_before_record given p q r) || is_complete h p q.offset) rs)) [
         | true ↦ first-among r rs ∙ ap (λ c. c && list_all (λ q.
-          not (is_before_record given p q r) || is_complete h p q.offset) rs)
-          (or-true (not (is_before_record given p q r)))
+            not (is_before_record given p q r) || is_complete h p q.offset) rs)
+            (or-true (not (is_before_record given p q r)))
         | false ↦ rw (before-entry q r, first-among r rs, or-false (not (is_before_record given p q r))) refl
       ]
     where
       or-true : (b : Bool) → true ≡ (b || true)
       or-true true = refl
       or-true false = refl
+
       or-false : (b : Bool) → (b || false) ≡ b
       or-false true = refl
       or-false false = refl
@@ -82,10 +83,10 @@ module _ (given : Given) (h : List Event) (p : ℕ) (busy : Record → Bool) whe
           → map (λ e. e.offset) (filter is_kept (map (entry_of busy) (filter (λ r. not (is_complete h p r.offset)) rs)))
           ≡ map (λ r. r.offset) (filter (λ r. not (is_complete h p r.offset) && is_next r) rs)
           → map (λ (e : Entry). e.offset) (cond a (entry_of busy r ∷ filter is_kept
-            (map (entry_of busy) (filter (λ r. not (is_complete h p r.offset)) rs)))
-            (filter is_kept (map (entry_of busy) (filter (λ r. not (is_complete h p r.offset)) rs))))
+          (map (entry_of busy) (filter (λ r. not (is_complete h p r.offset)) rs)))
+          (filter is_kept (map (entry_of busy) (filter (λ r. not (is_complete h p r.offset)) rs))))
           ≡ map (λ (r : Record). r.offset) (cond b (r ∷ filter (λ r. not (is_complete h p r.offset) && is_next r) rs)
-            (filter (λ r. not (is_complete h p r.offset) && is_next r) rs))
+          (filter (λ r. not (is_complete h p r.offset) && is_next r) rs))
       one-more r rs true true same rest = ap (λ os. r.offset ∷ os) rest
       one-more r rs true false same rest = cc
       one-more r rs false true same rest = cc

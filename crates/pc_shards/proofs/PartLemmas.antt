@@ -71,14 +71,14 @@ pub set-marked : (o : ℕ) (b : Bool) (es : List EntryRef) (i : ℕ) (d : EntryR
     ≡ with_busy o b (plain_entries es)
 set-marked o b [] i d r within is = absurd (omega arith)
 set-marked o b (e ∷ es) zero d r within is = rw (
-    number-same e.offset o is,
-    marked-other o b (plain_entries es) (behind-other o (plain e) (plain_entries es) r is),
-  ) refl
+  number-same e.offset o is,
+  marked-other o b (plain_entries es) (behind-other o (plain e) (plain_entries es) r is),
+) refl
 set-marked o b (e ∷ es) (suc i) d r within is = rw (
-    before-other o (plain e) (plain_entries es) r (plain (get_or es i d))
+  before-other o (plain e) (plain_entries es) r (plain (get_or es i d))
       (In-map plain (get_or es i d) es (In-get_or es i d (omega arith))) is,
-    set-marked o b es i d r.1 (omega arith) is,
-  ) refl
+  set-marked o b es i d r.1 (omega arith) is,
+) refl
 
 -- a removal at an offset's place takes its entry out
 pub remove-without : (o : ℕ) (es : List EntryRef) (i : ℕ) (d : EntryRef)
@@ -89,7 +89,7 @@ remove-without o (e ∷ es) zero d r within is = rw (number-same e.offset o is) 
     (λ (x : Entry). not (x.offset == o)) (plain_entries es) (λ x j. not-false (x.offset == o)
     (behind-other o (plain e) (plain_entries es) r is x j))))
 remove-without o (e ∷ es) (suc i) d r within is = rw (before-other o (plain e) (plain_entries es) r (plain (get_or es i d))
-      (In-map plain (get_or es i d) es (In-get_or es i d (omega arith))) is) (ap (λ (xs : List Entry). plain e ∷ xs) (remove-without o es i d r.1 (omega arith) is))
+    (In-map plain (get_or es i d) es (In-get_or es i d (omega arith))) is) (ap (λ (xs : List Entry). plain e ∷ xs) (remove-without o es i d r.1 (omega arith) is))
 
 -- what holds of the entry at an offset's place holds of each there
 pub each-at : (o : ℕ) (es : List EntryRef) (i : ℕ) (d : EntryRef) (P : Entry → Type 0)

@@ -77,9 +77,9 @@ Rises-put n (x ∷ xs) r apart = elim (cases_lt x n) [
     Rises-put n xs r.1 (λ i. apart (inr i)),
   )
   | inr le ↦ let below : n < x = (elim (cases_lt n x) [
-        | inl lt ↦ lt
-        | inr ge ↦ absurd (apart (inl (omega arith)))
-      ]) in rw (le-true n x le) (
+    | inl lt ↦ lt
+    | inr ge ↦ absurd (apart (inl (omega arith)))
+  ]) in rw (le-true n x le) (
     AllByRecursion-each (λ y. n < y) (x ∷ xs) (λ y i. elim i [
       | inl e ↦ rw e below
       | inr j ↦ let more = AllByRecursion-In (λ y. x < y) y xs r.0 j in omega (arith, more, below)
@@ -118,8 +118,11 @@ but-In u n xs i e = In-filter (λ x. not (x == n)) u xs i (not-false (u == n) e)
 pub Rises-filter : (f : ℕ → Bool) (xs : List ℕ) → Rises xs → Rises (filter f xs)
 Rises-filter f [] r = tt
 Rises-filter f (x ∷ xs) r = elim (f x) as (λ b. Rises (cond b (x ∷ filter f xs) (filter f xs))) [
-  | true ↦ (AllByRecursion-each (λ y. x < y) (filter f xs) (λ y i. AllByRecursion-In (λ y. x < y) y xs r.0
-    (In-filtered f y xs i).0), Rises-filter f xs r.1)
+  | true ↦ (
+    AllByRecursion-each (λ y. x < y) (filter f xs) (λ y i. AllByRecursion-In (λ y. x < y) y xs r.0
+        (In-filtered f y xs i).0),
+    Rises-filter f xs r.1,
+  )
   | false ↦ Rises-filter f xs r.1
 ]
 
@@ -250,11 +253,14 @@ pub Rises-map-filter : {X : Type 0} (f : X → ℕ) (t : X → Bool) (xs : List 
 Rises-map-filter f t [] r = tt
 Rises-map-filter f t (x ∷ xs) r = elim (t x) as
     (λ b. Rises (map f (cond b (x ∷ filter t xs) (filter t xs)))) [
-      | true ↦ (AllByRecursion-each (λ y. f x < y) (map f (filter t xs)) (λ y i.
-        let m = In-mapped f y (filter t xs) i in
-        let more = AllByRecursion-In (λ y. f x < y) (f m.0) (map f xs) r.0
-        (In-map f m.0 xs (In-filtered t m.0 xs m.1).0) in
-        rw m.2 more), Rises-map-filter f t xs r.1)
+      | true ↦ (
+        AllByRecursion-each (λ y. f x < y) (map f (filter t xs)) (λ y i.
+            let m = In-mapped f y (filter t xs) i in
+            let more = AllByRecursion-In (λ y. f x < y) (f m.0) (map f xs) r.0
+            (In-map f m.0 xs (In-filtered t m.0 xs m.1).0) in
+            rw m.2 more),
+        Rises-map-filter f t xs r.1,
+      )
       | false ↦ Rises-map-filter f t xs r.1
     ]
 

@@ -73,23 +73,23 @@ pub shards-set : (order : Order) (queues more : Queues) (parts : List Part) (i :
     → i < length parts → IsShards order queues parts
     → IsPart order i (plain_entries s.entries.items) s.ready.items (vec_capacity s.ready)
     → ((k : ShardKey) → part_of k ≡ i
-      → queue_of more k ≡ queue order i (plain_entries s.entries.items) (plain_key k))
+    → queue_of more k ≡ queue order i (plain_entries s.entries.items) (plain_key k))
     → ((k : ShardKey) → (part_of k == i) ≡ false → queue_of more k ≡ queue_of queues k)
     → IsShards order more (set parts i s)
 shards-set order queues more parts i s h is part own others = record {
   each = λ p. elim (cases_Bool (p == i)) [
     | inl same ↦ let at : p ≡ i = number-is p i same in
-      subst (λ q. IsPartAt order q (slice_get (set parts i s) q)) (sym at)
-      (subst (λ o. IsPartAt order i o) (sym (set-here parts i s h)) part)
+        subst (λ q. IsPartAt order q (slice_get (set parts i s) q)) (sym at)
+        (subst (λ o. IsPartAt order i o) (sym (set-here parts i s h)) part)
     | inr other ↦ subst (λ o. IsPartAt order p o) (sym (set-other parts i p s (number-is_not p i other))) (is.each p)
   ];
   queued = λ k. elim (cases_Bool (part_of k == i)) [
     | inl same ↦ let at : part_of k ≡ i = number-is (part_of k) i same in
-      own k at ∙ subst (λ q. queue order i (plain_entries s.entries.items) (plain_key k)
-      ≡ queue order q (entries_in (slice_get (set parts i s) q)) (plain_key k)) (sym at)
-      (ap (λ (o : Option Part). queue order i (entries_in o) (plain_key k)) (sym (set-here parts i s h)))
+        own k at ∙ subst (λ q. queue order i (plain_entries s.entries.items) (plain_key k)
+        ≡ queue order q (entries_in (slice_get (set parts i s) q)) (plain_key k)) (sym at)
+        (ap (λ (o : Option Part). queue order i (entries_in o) (plain_key k)) (sym (set-here parts i s h)))
     | inr other ↦ others k other ∙ is.queued k ∙ ap (λ (o : Option Part). queue order (part_of k)
-      (entries_in o) (plain_key k)) (sym (set-other parts i (part_of k) s (number-is_not (part_of k) i other)))
+        (entries_in o) (plain_key k)) (sym (set-other parts i (part_of k) s (number-is_not (part_of k) i other)))
   ];
 }
 
@@ -139,8 +139,8 @@ pub found : (order : Order) (queues : Queues) (parts : List Part) (i o : ℕ) (s
     → s ≡ get_or parts i s → IsFound order parts i o s
 found order queues parts i o s is first at =
     let past : length parts ≤ i → ⊥ = λ h. let none : is_first_offset order i [] o ≡ true =
-        subst (λ es. is_first_offset order i es o ≡ true) (of-all parts i
-        ∙ ap entries_in (slice_get_past parts i h)) first in cc in
+    subst (λ es. is_first_offset order i es o ≡ true) (of-all parts i
+    ∙ ap entries_in (slice_get_past parts i h)) first in cc in
     let within : i < length parts = elim (cases_lt i (length parts)) [ inl lt ↦ lt | inr ge ↦ absurd (past ge) ] in
     let own = slice_get_read parts (length parts) i s refl within at in
     record {
@@ -200,8 +200,8 @@ module _ (order : Order) (queues : Queues) (parts : List Part) (i o : ℕ) (s t 
       ⊎ EachAt o (plain_entries s.entries.items) (λ e. e.is_busy ≡ false)
   was = let e = first-entry order i (plain_entries s.entries.items) o f.first in
       let one : (x : Entry) → In x (plain_entries s.entries.items) → x.offset ≡ o → x.is_busy ≡ e.0.is_busy =
-          λ x j at. ap (λ (y : Entry). y.is_busy) (one-entry (plain_entries s.entries.items) f.part.rises
-          x e.0 j e.1 (at ∙ sym e.2)) in
+      λ x j at. ap (λ (y : Entry). y.is_busy) (one-entry (plain_entries s.entries.items) f.part.rises
+      x e.0 j e.1 (at ∙ sym e.2)) in
       elim (cases_Bool e.0.is_busy) [
         | inl busy ↦ inl (λ x j at. one x j at ∙ busy)
         | inr free ↦ inr (λ x j at. one x j at ∙ free)
@@ -217,12 +217,12 @@ module _ (order : Order) (queues : Queues) (parts : List Part) (i o : ℕ) (s t 
       → (EachAt o (plain_entries s.entries.items) (λ e. e.is_busy ≡ false) → t.ready.items ≡ s.ready.items)
       → vec_capacity t.ready ≡ vec_capacity s.ready → IsShards order queues (set parts i t)
   shards-free entries ready same room = shards-set order queues queues parts i t f.within is (elim was [
-        | inl busy ↦ part-like (with_busy o false (plain_entries s.entries.items)) (put o s.ready.items) entries
-          (ready busy) room (made_free order i (plain_entries s.entries.items) s.ready.items
-          (vec_capacity s.ready) o f.part f.first busy)
-        | inr free ↦ part-like (plain_entries s.entries.items) s.ready.items
-          (entries ∙ with_busy-same o false (plain_entries s.entries.items) free) (same free) room f.part
-      ])
+    | inl busy ↦ part-like (with_busy o false (plain_entries s.entries.items)) (put o s.ready.items) entries
+        (ready busy) room (made_free order i (plain_entries s.entries.items) s.ready.items
+        (vec_capacity s.ready) o f.part f.first busy)
+    | inr free ↦ part-like (plain_entries s.entries.items) s.ready.items
+        (entries ∙ with_busy-same o false (plain_entries s.entries.items) free) (same free) room f.part
+  ])
       (marked-queues false entries) (λ k other. refl)
 
 -- what clauses see of the part changes as its entries do
@@ -281,12 +281,12 @@ module _ (order : Order) (queues more : Queues) (parts : List Part) (i o : ℕ) 
       → queue_of more k ≡ queue order i (without o (plain_entries s.entries.items)) (plain_key k)
   queued-after k at = elim (cases_Bool (is_same shard k)) [
     | inl same ↦ let keys : plain_key shard ≡ plain_key k = same_key-true (plain_key shard) (plain_key k) same in
-      queue_of-same more k shard (sym keys) ∙ queued-own
-      ∙ ap (queue order i (without o (plain_entries s.entries.items))) (sym own-key ∙ keys)
+        queue_of-same more k shard (sym keys) ∙ queued-own
+        ∙ ap (queue order i (without o (plain_entries s.entries.items))) (sym own-key ∙ keys)
     | inr other ↦ others k other ∙ queued-before k at
-      ∙ sym (queue-others order i (plain_entries s.entries.items) s.ready.items (vec_capacity s.ready) o f.part
-      first_one.0 first_one.1 first_one.2 first_one.3 (plain_key k)
-      (subst (λ l. same_key l (plain_key k) ≡ false) own-key other))
+        ∙ sym (queue-others order i (plain_entries s.entries.items) s.ready.items (vec_capacity s.ready) o f.part
+        first_one.0 first_one.1 first_one.2 first_one.3 (plain_key k)
+        (subst (λ l. same_key l (plain_key k) ≡ false) own-key other))
   ]
 
   queued-others : (k : ShardKey) → (part_of k == i) ≡ false → queue_of more k ≡ queue_of queues k
@@ -324,7 +324,7 @@ module _ (order : Order) (queues more : Queues) (parts : List Part) (i o : ℕ) 
         → vec_capacity u.ready ≡ vec_capacity t.ready → IsShards order more (set parts i u)
     shards-next u same offsets places =
         let of_u : plain_entries u.entries.items ≡ without o (plain_entries s.entries.items) =
-            ap (λ v. plain_entries v.items) same ∙ entries in
+        ap (λ v. plain_entries v.items) same ∙ entries in
         shards-set order queues more parts i u f.within is
         (part-like order queues parts i o s u is f (without o (plain_entries s.entries.items))
         (put n (but o s.ready.items)) of_u (offsets ∙ ap (put n) ready) (places ∙ room)
@@ -429,13 +429,13 @@ module _ (order : Order) (queues : Queues) (before parts : List Part) (i o : ℕ
       queued-more : (k : ShardKey) → part_of k ≡ i → queue_of more k ≡ queue order i (es ++ entry ∷ []) (plain_key k)
       queued-more k same = elim (cases_Bool (is_same shard k)) [
         | inl own ↦ let keys : plain_key shard ≡ plain_key k = same_key-true (plain_key shard) (plain_key k) own in
-          queue_of-same more k shard (sym keys) ∙ pushed
-          ∙ ap (λ (xs : List ℕ). xs ++ o ∷ []) (queue_of-same queues shard k keys ∙ queued-now k same)
-          ∙ sym (queue-push order i es entry below (plain_key k)
+            queue_of-same more k shard (sym keys) ∙ pushed
+            ∙ ap (λ (xs : List ℕ). xs ++ o ∷ []) (queue_of-same queues shard k keys ∙ queued-now k same)
+            ∙ sym (queue-push order i es entry below (plain_key k)
             ∙ ap (λ b. queue order i es (plain_key k) ++ cond b (o ∷ []) [])
             (same_key-is (plain_key k) (key_of order i entry) (sym keys ∙ of_shard)))
         | inr other ↦ others k other ∙ queued-now k same
-          ∙ sym (queue-push order i es entry below (plain_key k)
+            ∙ sym (queue-push order i es entry below (plain_key k)
             ∙ ap (λ b. queue order i es (plain_key k) ++ cond b (o ∷ []) [])
             (same_key-sym (plain_key k) (key_of order i entry)
             ∙ ap (λ l. same_key l (plain_key k)) (sym of_shard) ∙ other)
@@ -458,14 +458,14 @@ module _ (order : Order) (queues : Queues) (before parts : List Part) (i o : ℕ
           (subst (λ n. IsPart order i (es ++ entry ∷ []) t.ready.items n) (sym room)
           (elim (cases_Bool first) [
             | inl alone ↦ subst (λ os. IsPart order i (es ++ entry ∷ []) os (vec_capacity s.ready))
-              (sym (ready ∙ ap (λ b. cond b (s.ready.items ++ o ∷ []) s.ready.items) alone))
-              (added-first order i es entry below s.ready.items (vec_capacity s.ready) (vec_capacity s.ready)
-              own-state refl (queued-length ∙ number-is (length (queue_of queues shard)) 0 (sym is_first ∙ alone)) fits)
+                (sym (ready ∙ ap (λ b. cond b (s.ready.items ++ o ∷ []) s.ready.items) alone))
+                (added-first order i es entry below s.ready.items (vec_capacity s.ready) (vec_capacity s.ready)
+                own-state refl (queued-length ∙ number-is (length (queue_of queues shard)) 0 (sym is_first ∙ alone)) fits)
             | inr behind ↦ subst (λ os. IsPart order i (es ++ entry ∷ []) os (vec_capacity s.ready))
-              (sym (ready ∙ ap (λ b. cond b (s.ready.items ++ o ∷ []) s.ready.items) behind))
-              (added-behind order i es entry below s.ready.items (vec_capacity s.ready) (vec_capacity s.ready)
-              own-state refl (rw queued-length (some-number (length (queue_of queues shard))
-              (sym is_first ∙ behind))) fits)
+                (sym (ready ∙ ap (λ b. cond b (s.ready.items ++ o ∷ []) s.ready.items) behind))
+                (added-behind order i es entry below s.ready.items (vec_capacity s.ready) (vec_capacity s.ready)
+                own-state refl (rw queued-length (some-number (length (queue_of queues shard))
+                (sym is_first ∙ behind))) fits)
           ]))
 
       pub shards-added : IsShards order more (set parts i t)

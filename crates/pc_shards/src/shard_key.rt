@@ -19,12 +19,7 @@ pub enum ShardKey<'a> {
 }
 
 /// The ordering key of a record.
-pub fn of_record<'a>(
-    order: Order,
-    part: u32,
-    offset: u64,
-    key: Option<&'a [u8]>,
-) -> ShardKey<'a>
+pub fn of_record<'a>(order: Order, part: u32, offset: u64, key: Option<&'a [u8]>) -> ShardKey<'a>
     ensures key { plain_key result ≡ key_of order part
         (record { offset = offset; key = option_copied key.entry; is_busy = false }) }
     ensures part { part_of result ≡ part }

@@ -54,12 +54,7 @@ impl<'a> Shards<'a> {
 
     /// Adds a record that was polled and is incomplete, above all of its part that are there. It is
     /// not busy. Makes the room that the other calls need.
-    pub fn add(
-        &mut self,
-        part: u32,
-        offset: u64,
-        key: Option<&'a [u8]>,
-    ) -> Result<(), AllocError>
+    pub fn add(&mut self, part: u32, offset: u64, key: Option<&'a [u8]>) -> Result<(), AllocError>
         requires { All (λ e. e.offset < offset) (of_part self.old part) }
         ensures added { OnOk result (of_part self.new part ≡ of_part self.old part ++
             record { offset = offset; key = option_copied key.entry; is_busy = false } ∷ []) }

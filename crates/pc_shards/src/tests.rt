@@ -20,10 +20,34 @@ const ROWS: [(
     Option<u64>,
 ); 5] = [
     (Order::Key, None, Some(b""), None, Some(1), None, Some(2)),
-    (Order::Key, Some(b"a"), Some(b"ab"), Some(b"a"), Some(1), None, Some(2)),
-    (Order::Key, Some(b"ab"), Some(b"a"), Some(b"b"), Some(1), Some(2), None),
+    (
+        Order::Key,
+        Some(b"a"),
+        Some(b"ab"),
+        Some(b"a"),
+        Some(1),
+        None,
+        Some(2),
+    ),
+    (
+        Order::Key,
+        Some(b"ab"),
+        Some(b"a"),
+        Some(b"b"),
+        Some(1),
+        Some(2),
+        None,
+    ),
     (Order::None, None, None, None, Some(1), Some(2), None),
-    (Order::Partition, None, Some(b""), Some(b"a"), None, None, Some(1)),
+    (
+        Order::Partition,
+        None,
+        Some(b""),
+        Some(b"a"),
+        None,
+        None,
+        Some(1),
+    ),
 ];
 
 #[test]

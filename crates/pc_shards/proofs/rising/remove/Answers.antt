@@ -18,9 +18,9 @@ returns-else-at-as_slice-clause-offsets c =
     let above = rw c.as_slice.ensures.value at c.count_below-at.ensures.above in
     sym (elim c.else-at-as_slice.branch [
       | else-at-as_slice-via-then-at-as_slice+else-index-offset w ↦ but-absent c.args.offset
-        c.args.offsets.now.items c.count_below-at.result w.index.result.now c.requires.rises
-        within below above (λ h e. w.if-index-offset.false (w.index.ensures ∙ e))
+          c.args.offsets.now.items c.count_below-at.result w.index.result.now c.requires.rises
+          within below above (λ h e. w.if-index-offset.false (w.index.ensures ∙ e))
       | else-at-as_slice-via-else-at-as_slice w ↦ but-absent c.args.offset
-        c.args.offsets.now.items c.count_below-at.result 0 c.requires.rises within below above
-        (λ h e. let past = rw c.as_slice-2.ensures.value at w.if-at-as_slice.false in omega (arith, h, past))
+          c.args.offsets.now.items c.count_below-at.result 0 c.requires.rises within below above
+          (λ h e. let past = rw c.as_slice-2.ensures.value at w.if-at-as_slice.false in omega (arith, h, past))
     ])
