@@ -7,19 +7,23 @@ use Rattle.pc_model.specs.Numbers.{least_of}
 use Rattle.pc_shards.specs.Entries.{Entry, is_first, is_first_offset, least_ready_of, marked, ready_offsets, with_busy}
 use Rattle.pc_shards.specs.Rising.{In}
 use Rattle.pc_shards.proofs.Lists.{In-map, and-both, list_any-In, number-same}
-use Rattle.pc_shards.proofs.EntriesLemmas.{In-ready, first-entry, first-marked, marked-offset}
+use Rattle.pc_shards.proofs.EntriesLemmas.{In-ready, first-entry}
+use Rattle.pc_shards.proofs.MarkedEntries.{first-marked, marked-offset}
 
 -- an entry that is the first of its key makes its offset one
-offset-first : (order : Order) (p : ℕ) (es : List Entry) (o : ℕ) (e : Entry) → In e es → e.offset ≡ o
+offset-first : (order : Order) (p : ℕ) (es : List Entry) (o : ℕ) (e : Entry) → In e es
+    → e.offset ≡ o
     → is_first order p es e ≡ true → is_first_offset order p es o ≡ true
-offset-first order p es o e i at first = list_any-In (λ (e : Entry). (e.offset == o) && is_first order p es e)
+offset-first order p es o e i at first = list_any-In (λ (e : Entry).
+    (e.offset == o) && is_first order p es e)
     e es i (and-both (e.offset == o) (is_first order p es e) (number-same e.offset o at) first)
 
 least-In : (x : ℕ) (xs : List ℕ) → In (option_map_or (min x) (least_of xs) x) (x ∷ xs)
 least-In x [] = inl refl
 least-In x (y ∷ ys) = elim (cases_lt x (option_map_or (min y) (least_of ys) y)) [
   | inl lt ↦ inl (omega (arith, lt))
-  | inr ge ↦ let least : min x (option_map_or (min y) (least_of ys) y) ≡ option_map_or (min y) (least_of ys) y
+  | inr ge ↦ let least : min x (option_map_or (min y) (least_of ys) y)
+      ≡ option_map_or (min y) (least_of ys) y
       = omega (arith, ge) in inr (subst (λ n. In n (y ∷ ys)) (sym least) (least-In y ys))
 ]
 

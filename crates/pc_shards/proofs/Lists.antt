@@ -132,7 +132,8 @@ module _ {X : Type 0} where
   list_all-each f (y ∷ ys) each = rw (each y (inl refl))
       (list_all-each f ys (λ x i. each x (inr i)))
 
-  pub AllByRecursion-In : (P : X → Type 0) (x : X) (xs : List X) → AllByRecursion P xs → In x xs → P x
+  pub AllByRecursion-In : (P : X → Type 0) (x : X) (xs : List X) → AllByRecursion P xs → In x xs
+      → P x
   AllByRecursion-In P x [] all i = elim i [ ]
   AllByRecursion-In P x (y ∷ ys) all (inl e) = subst P (sym e) all.0
   AllByRecursion-In P x (y ∷ ys) all (inr i) = AllByRecursion-In P x ys all.1 i
@@ -140,24 +141,18 @@ module _ {X : Type 0} where
   pub AllByRecursion-each : (P : X → Type 0) (xs : List X) → ((x : X) → In x xs → P x)
       → AllByRecursion P xs
   AllByRecursion-each P [] each = tt
-  AllByRecursion-each P (y ∷ ys) each = (each y (inl refl), AllByRecursion-each P ys (λ x i. each x (inr i)))
+  AllByRecursion-each P (y ∷ ys) each = (
+    each y (inl refl),
+    AllByRecursion-each P ys (λ x i. each x
+        (inr i)),
+  )
 
   -- a filter that all pass is the list
-  pub filter-all : (f : X → Bool) (xs : List X) → ((x : X) → In x xs → f x ≡ true) → filter f xs ≡ xs
+  pub filter-all : (f : X → Bool) (xs : List X) → ((x : X) → In x xs → f x ≡ true)
+      → filter f xs ≡ xs
   filter-all f [] each = refl
   filter-all f (y ∷ ys) each = rw (each y (inl refl))
       (ap (λ zs. y ∷ zs) (filter-all f ys (λ x i. each x (inr i))))
-
-  -- two tests that agree on the list keep the same of it
-  pub filter-agree : (f g : X → Bool) (xs : List X) → ((x : X) → In x xs → f x ≡ g x)
-      → filter f xs ≡ filter g xs
-  filter-agree f g [] each = refl
-  filter-agree f g (y ∷ ys) each = rw (each y (inl refl), filter-agree f g ys (λ x i. each x (inr i))) refl
-
-  -- a filter that none pass is empty
-  pub filter-none : (f : X → Bool) (xs : List X) → ((x : X) → In x xs → f x ≡ false) → filter f xs ≡ []
-  filter-none f [] each = refl
-  filter-none f (y ∷ ys) each = rw (each y (inl refl)) (filter-none f ys (λ x i. each x (inr i)))
 
 pub In-map : {X Y : Type 0} (f : X → Y) (x : X) (xs : List X) → In x xs → In (f x) (map f xs)
 In-map f x [] i = elim i [ ]

@@ -40,7 +40,12 @@ module _ (given : Given) (h : List Event) (p : ℕ) (busy : Record → Bool) whe
         | true ↦ first-among r rs ∙ ap (λ c. c && list_all (λ q.
             not (is_before_record given p q r) || is_complete h p q.offset) rs)
             (or-true (not (is_before_record given p q r)))
-        | false ↦ rw (before-entry q r, first-among r rs, or-false (not (is_before_record given p q r))) refl
+        | false ↦ rw (
+          before-entry q r,
+          first-among r rs,
+          or-false (not
+              (is_before_record given p q r)),
+        ) refl
       ]
     where
       or-true : (b : Bool) → true ≡ (b || true)
@@ -64,11 +69,13 @@ module _ (given : Given) (h : List Event) (p : ℕ) (busy : Record → Bool) whe
   is_next r = is_first_record given h p r && not (busy r)
 
   ready-among : (rs : List Record)
-      → map (λ e. e.offset) (filter is_kept (map (entry_of busy) (filter (λ r. not (is_complete h p r.offset)) rs)))
+      → map (λ e. e.offset) (filter is_kept (map (entry_of busy) (filter (λ r. not
+      (is_complete h p r.offset)) rs)))
       ≡ map (λ r. r.offset) (filter (λ r. not (is_complete h p r.offset) && is_next r) rs)
   ready-among [] = refl
   ready-among (r ∷ rs) =
-      let same : is_kept (entry_of busy r) ≡ is_next r = ap (λ b. b && not (busy r)) (is_first-entry r) in
+      let same : is_kept (entry_of busy r) ≡ is_next r = ap (λ b. b && not (busy r))
+      (is_first-entry r) in
       elim (is_complete h p r.offset) as (λ c. map (λ (e : Entry). e.offset) (filter is_kept
       (map (entry_of busy) (cond (not c) (r ∷ filter (λ r. not (is_complete h p r.offset)) rs)
       (filter (λ r. not (is_complete h p r.offset)) rs))))
@@ -80,19 +87,22 @@ module _ (given : Given) (h : List Event) (p : ℕ) (busy : Record → Bool) whe
       ]
     where
       one-more : (r : Record) (rs : List Record) (a b : Bool) → a ≡ b
-          → map (λ e. e.offset) (filter is_kept (map (entry_of busy) (filter (λ r. not (is_complete h p r.offset)) rs)))
+          → map (λ e. e.offset) (filter is_kept (map (entry_of busy) (filter (λ r. not
+          (is_complete h p r.offset)) rs)))
           ≡ map (λ r. r.offset) (filter (λ r. not (is_complete h p r.offset) && is_next r) rs)
           → map (λ (e : Entry). e.offset) (cond a (entry_of busy r ∷ filter is_kept
           (map (entry_of busy) (filter (λ r. not (is_complete h p r.offset)) rs)))
           (filter is_kept (map (entry_of busy) (filter (λ r. not (is_complete h p r.offset)) rs))))
-          ≡ map (λ (r : Record). r.offset) (cond b (r ∷ filter (λ r. not (is_complete h p r.offset) && is_next r) rs)
+          ≡ map (λ (r : Record). r.offset) (cond b (r ∷ filter (λ r. not
+          (is_complete h p r.offset) && is_next r) rs)
           (filter (λ r. not (is_complete h p r.offset) && is_next r) rs))
       one-more r rs true true same rest = ap (λ os. r.offset ∷ os) rest
       one-more r rs true false same rest = cc
       one-more r rs false true same rest = cc
       one-more r rs false false same rest = rest
 
-  -- the ready offsets are those of the polled records that are incomplete, first of their key and not busy
+  -- the ready offsets are those of the polled records that are incomplete, first of their key and
+  -- not busy
   pub ready_offsets-records : ready_offsets given.setup.order p (open_entries given h p busy)
       ≡ map (λ r. r.offset) (filter (λ r. not (is_complete h p r.offset)
       && (is_first_record given h p r && not (busy r))) (polled_records given h p))

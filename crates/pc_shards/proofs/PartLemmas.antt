@@ -14,14 +14,16 @@ offsets-plain [] = refl
 offsets-plain (e ∷ es) = ap (λ (os : List ℕ). e.offset ∷ os) (offsets-plain es)
 
 -- where items rise, the first whose number is not below one of the numbers has it
-pub first-has : {X : Type 0} (f : X → ℕ) (o : ℕ) (xs : List X) (i : ℕ) → Rises (map f xs) → In o (map f xs)
+pub first-has : {X : Type 0} (f : X → ℕ) (o : ℕ) (xs : List X) (i : ℕ) → Rises (map f xs)
+    → In o (map f xs)
     → AllWithin (λ x. f x < o) xs 0 i → AllWithin (λ x. o ≤ f x) xs i (length xs)
     → i ≤ length xs → (i < length xs) × ((d : X) → f (get_or xs i d) ≡ o)
 first-has f o [] i r has below above within = elim has [ ]
 first-has f o (x ∷ xs) zero r (inl e) below above within = (omega arith, λ d. sym e)
 first-has f o (x ∷ xs) zero r (inr j) below above within =
     let le : o ≤ f x = above zero x (omega arith) (omega arith) in
-    let more = AllByRecursion-In (λ y. f x < y) o (map f xs) r.0 j in absurd (omega (arith, le, more))
+    let more = AllByRecursion-In (λ y. f x < y) o (map f xs) r.0 j in
+    absurd (omega (arith, le, more))
 first-has f o (x ∷ xs) (suc i) r (inl e) below above within =
     let lt : f x < o = below zero x (omega arith) (omega arith) in absurd (omega (arith, lt, e))
 first-has f o (x ∷ xs) (suc i) r (inr j) below above within =
@@ -31,17 +33,20 @@ first-has f o (x ∷ xs) (suc i) r (inr j) below above within =
     (omega (arith, rest.0), rest.1)
 
 -- an entry behind another is not at its offset
-pub behind-other : (o : ℕ) (e : Entry) (es : List Entry) → Rises (offsets_of (e ∷ es)) → e.offset ≡ o
+pub behind-other : (o : ℕ) (e : Entry) (es : List Entry) → Rises (offsets_of (e ∷ es))
+    → e.offset ≡ o
     → (x : Entry) → In x es → (x.offset == o) ≡ false
 behind-other o e es r is x i = number-other x.offset o (λ same.
-    let more = AllByRecursion-In (λ y. e.offset < y) x.offset (offsets_of es) r.0 (In-map (λ (y : Entry). y.offset) x es i) in
+    let more = AllByRecursion-In (λ y. e.offset < y) x.offset (offsets_of es) r.0 (In-map (λ
+    (y : Entry). y.offset) x es i) in
     omega (arith, more, same, is))
 
 -- an entry before another is not at its offset
 before-other : (o : ℕ) (e : Entry) (es : List Entry) → Rises (offsets_of (e ∷ es))
     → (x : Entry) → In x es → x.offset ≡ o → (e.offset == o) ≡ false
 before-other o e es r x i is = number-other e.offset o (λ same.
-    let more = AllByRecursion-In (λ y. e.offset < y) x.offset (offsets_of es) r.0 (In-map (λ (y : Entry). y.offset) x es i) in
+    let more = AllByRecursion-In (λ y. e.offset < y) x.offset (offsets_of es) r.0 (In-map (λ
+    (y : Entry). y.offset) x es i) in
     omega (arith, more, same, is))
 
 -- two entries at one offset are one
@@ -50,15 +55,20 @@ pub one-entry : (es : List Entry) → Rises (offsets_of es) → (a b : Entry) �
 one-entry [] r a b i j same = elim i [ ]
 one-entry (e ∷ es) r a b (inl x) (inl y) same = x ∙ sym y
 one-entry (e ∷ es) r a b (inl x) (inr j) same =
-    let more = AllByRecursion-In (λ y. e.offset < y) b.offset (offsets_of es) r.0 (In-map (λ (y : Entry). y.offset) b es j) in
-    let is : a.offset ≡ e.offset = ap (λ (y : Entry). y.offset) x in absurd (omega (arith, more, same, is))
+    let more = AllByRecursion-In (λ y. e.offset < y) b.offset (offsets_of es) r.0 (In-map (λ
+    (y : Entry). y.offset) b es j) in
+    let is : a.offset ≡ e.offset = ap (λ (y : Entry). y.offset) x in
+    absurd (omega (arith, more, same, is))
 one-entry (e ∷ es) r a b (inr i) (inl y) same =
-    let more = AllByRecursion-In (λ y. e.offset < y) a.offset (offsets_of es) r.0 (In-map (λ (y : Entry). y.offset) a es i) in
-    let is : b.offset ≡ e.offset = ap (λ (y : Entry). y.offset) y in absurd (omega (arith, more, same, is))
+    let more = AllByRecursion-In (λ y. e.offset < y) a.offset (offsets_of es) r.0 (In-map (λ
+    (y : Entry). y.offset) a es i) in
+    let is : b.offset ≡ e.offset = ap (λ (y : Entry). y.offset) y in
+    absurd (omega (arith, more, same, is))
 one-entry (e ∷ es) r a b (inr i) (inr j) same = one-entry es r.1 a b i j same
 
 -- marks leave entries at other offsets
-marked-other : (o : ℕ) (b : Bool) (es : List Entry) → ((x : Entry) → In x es → (x.offset == o) ≡ false)
+marked-other : (o : ℕ) (b : Bool) (es : List Entry) → ((x : Entry) → In x es
+    → (x.offset == o) ≡ false)
     → with_busy o b es ≡ es
 marked-other o b [] other = refl
 marked-other o b (e ∷ es) other = rw (other e (inl refl))
@@ -67,7 +77,12 @@ marked-other o b (e ∷ es) other = rw (other e (inl refl))
 -- a write at an offset's place marks its entry
 pub set-marked : (o : ℕ) (b : Bool) (es : List EntryRef) (i : ℕ) (d : EntryRef)
     → Rises (offsets_of (plain_entries es)) → i < length es → (get_or es i d).offset ≡ o
-    → plain_entries (set es i (record { offset = (get_or es i d).offset; key = (get_or es i d).key; is_busy = b }))
+    → plain_entries (set es i (record {
+      offset = (get_or es i d).offset;
+      key =
+          (get_or es i d).key;
+      is_busy = b;
+    }))
     ≡ with_busy o b (plain_entries es)
 set-marked o b [] i d r within is = absurd (omega arith)
 set-marked o b (e ∷ es) zero d r within is = rw (
@@ -88,8 +103,10 @@ remove-without o [] i d r within is = absurd (omega arith)
 remove-without o (e ∷ es) zero d r within is = rw (number-same e.offset o is) (sym (filter-all
     (λ (x : Entry). not (x.offset == o)) (plain_entries es) (λ x j. not-false (x.offset == o)
     (behind-other o (plain e) (plain_entries es) r is x j))))
-remove-without o (e ∷ es) (suc i) d r within is = rw (before-other o (plain e) (plain_entries es) r (plain (get_or es i d))
-    (In-map plain (get_or es i d) es (In-get_or es i d (omega arith))) is) (ap (λ (xs : List Entry). plain e ∷ xs) (remove-without o es i d r.1 (omega arith) is))
+remove-without o (e ∷ es) (suc i) d r within is = rw (before-other o (plain e) (plain_entries es) r
+    (plain (get_or es i d))
+    (In-map plain (get_or es i d) es (In-get_or es i d (omega arith))) is) (ap (λ
+    (xs : List Entry). plain e ∷ xs) (remove-without o es i d r.1 (omega arith) is))
 
 -- what holds of the entry at an offset's place holds of each there
 pub each-at : (o : ℕ) (es : List EntryRef) (i : ℕ) (d : EntryRef) (P : Entry → Type 0)

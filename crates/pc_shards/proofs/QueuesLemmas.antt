@@ -27,7 +27,8 @@ module _ {X S : Type 0} (items : X → List ℕ) where
   look-found m k v is = ap (λ (o : Option X). option_map_or items o []) (sym (found m k) ∙ is)
 
   -- the same keys have the same queue
-  look-same : (m : IndexMap ShardKey X S) (k l : ShardKey) → is_same k l ≡ true → look m l ≡ look m k
+  look-same : (m : IndexMap ShardKey X S) (k l : ShardKey) → is_same k l ≡ true
+      → look m l ≡ look m k
   look-same m k l e = ap (λ (p : OrderingKey). option_map_or items
       (get_by (λ (j : ShardKey). same_key p (plain_key j)) m) [])
       (sym (same_key-true (plain_key k) (plain_key l) e))
@@ -51,7 +52,8 @@ module _ {X S : Type 0} (items : X → List ℕ) where
 -- a map without the keys of a part has the queues of the other parts
 module _ {X S : Type 0} (items : X → List ℕ) (m n : IndexMap ShardKey X S) (p : ℕ)
     (kept : n.entries ≡ filter (λ e. not (part_of e.0 == p)) m.entries) where
-  looked : (k : ShardKey) (b : Bool) → ((l : ShardKey) → is_same k l ≡ true → not (part_of l == p) ≡ b)
+  looked : (k : ShardKey) (b : Bool) → ((l : ShardKey) → is_same k l ≡ true
+      → not (part_of l == p) ≡ b)
       → look items n k ≡ option_map_or items (cond b (get_by (is_same k) m) None) []
   looked k b each = ap (λ (o : Option X). option_map_or items o [])
       (ap (lookup (is_same k)) kept
@@ -62,11 +64,13 @@ module _ {X S : Type 0} (items : X → List ℕ) (m n : IndexMap ShardKey X S) (
       (sym (part_of-same k l same) ∙ is)))
 
   pub look-kept : (k : ShardKey) → (part_of k == p) ≡ false → look items n k ≡ look items m k
-  look-kept k other = looked k true (λ l same. not-false (part_of l == p) (number-other (part_of l) p
+  look-kept k other = looked k true (λ l same. not-false (part_of l == p) (number-other
+      (part_of l) p
       (λ is. number-is_not (part_of k) p other (part_of-same k l same ∙ is))))
 
 -- the first item, as `front` gives it
-pub front-first : (xs : List ℕ) (r : Option (Bor ℕ)) → IsItemAt xs 0 r → option_copied r ≡ slice_get xs 0
+pub front-first : (xs : List ℕ) (r : Option (Bor ℕ)) → IsItemAt xs 0 r
+    → option_copied r ≡ slice_get xs 0
 front-first [] None item = refl
 front-first [] (Some x) item = let e = item.0 in cc
 front-first (y ∷ xs) None item = let e = item.2 (omega arith) in cc

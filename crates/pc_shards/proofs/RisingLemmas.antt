@@ -22,7 +22,8 @@ In-get_or (x ∷ xs) zero d h = inl refl
 In-get_or (x ∷ xs) (suc k) d h = inr (In-get_or xs k d (omega arith))
 
 -- items whose numbers rise do not fall
-pub rises-non_decreasing : {X : Type 0} (f : X → ℕ) (xs : List X) → Rises (map f xs) → IsNonDecreasingBy f xs
+pub rises-non_decreasing : {X : Type 0} (f : X → ℕ) (xs : List X) → Rises (map f xs)
+    → IsNonDecreasingBy f xs
 rises-non_decreasing f [] r i j d le h = absurd (omega arith)
 rises-non_decreasing f (x ∷ xs) r zero zero d le h = omega arith
 rises-non_decreasing f (x ∷ xs) r zero (suc j) d le h =
@@ -137,12 +138,14 @@ apart-below : (n x : ℕ) → x < n → (x == n) ≡ false
 apart-below n x h = grind (arith, nat_tests)
 
 -- a removal at its place takes it out
-pub remove-but : (n : ℕ) (xs : List ℕ) (i d : ℕ) → Rises xs → i < length xs → AllWithin (λ x. x < n) xs 0 i
+pub remove-but : (n : ℕ) (xs : List ℕ) (i d : ℕ) → Rises xs → i < length xs
+    → AllWithin (λ x. x < n) xs 0 i
     → get_or xs i d ≡ n → remove xs i ≡ but n xs
 remove-but n [] i d r within below is = absurd (omega arith)
 remove-but n (x ∷ xs) zero d r within below is =
     let same : (x == n) ≡ true = number-same x n is in
-    let rest : but n xs ≡ xs = but-none n xs (λ y j. let more = AllByRecursion-In (λ y. x < y) y xs r.0 j in
+    let rest : but n xs ≡ xs = but-none n xs (λ y j. let more = AllByRecursion-In
+    (λ y. x < y) y xs r.0 j in
     apart-above n y (omega (arith, more, is))) in
     rw same (sym rest)
 remove-but n (x ∷ xs) (suc i) d r within below is =
@@ -151,8 +154,10 @@ remove-but n (x ∷ xs) (suc i) d r within below is =
     (λ k e low high. below (suc k) e (omega arith) (omega arith)) is))
 
 -- and where another number stands at its place, it is not there
-pub but-absent : (n : ℕ) (xs : List ℕ) (i d : ℕ) → Rises xs → i ≤ length xs → AllWithin (λ x. x < n) xs 0 i
-    → AllWithin (λ x. n ≤ x) xs i (length xs) → (i < length xs → get_or xs i d ≡ n → ⊥) → but n xs ≡ xs
+pub but-absent : (n : ℕ) (xs : List ℕ) (i d : ℕ) → Rises xs → i ≤ length xs
+    → AllWithin (λ x. x < n) xs 0 i
+    → AllWithin (λ x. n ≤ x) xs i (length xs) → (i < length xs → get_or xs i d ≡ n → ⊥)
+    → but n xs ≡ xs
 but-absent n [] i d r within below above other = refl
 but-absent n (x ∷ xs) zero d r within below above other =
     let le : n ≤ x = above zero 0 (omega arith) (omega arith) in
@@ -162,7 +167,8 @@ but-absent n (x ∷ xs) zero d r within below above other =
     ]) in
     but-none n (x ∷ xs) (λ y j. elim j [
       | inl e ↦ apart-above n y (omega (arith, e, lt))
-      | inr k ↦ let more = AllByRecursion-In (λ y. x < y) y xs r.0 k in apart-above n y (omega (arith, more, lt))
+      | inr k ↦ let more = AllByRecursion-In (λ y. x < y) y xs r.0 k in
+          apart-above n y (omega (arith, more, lt))
     ])
 but-absent n (x ∷ xs) (suc i) d r within below above other =
     let lt : x < n = below zero 0 (omega arith) (omega arith) in
@@ -214,7 +220,8 @@ least-has n x (y ∷ ys) (inl e) = omega (arith, e)
 least-has n x (y ∷ ys) (inr i) = let le = least-has n y ys i in omega (arith, le)
 
 -- one that is among the numbers and below none of them is their least
-pub least_of-is : (n : ℕ) (xs : List ℕ) → In n xs → ((x : ℕ) → In x xs → n ≤ x) → least_of xs ≡ Some n
+pub least_of-is : (n : ℕ) (xs : List ℕ) → In n xs → ((x : ℕ) → In x xs → n ≤ x)
+    → least_of xs ≡ Some n
 least_of-is n [] i all = elim i [ ]
 least_of-is n (x ∷ xs) i all =
     let low = least-above n x xs (all x (inl refl)) (λ z j. all z (inr j)) in
@@ -238,7 +245,8 @@ least_of-none (x ∷ xs) none = absurd (none x (inl refl))
 
 -- ---- lists of items by rising numbers
 
-pub Rises-push : (n : ℕ) (xs : List ℕ) → Rises xs → ((x : ℕ) → In x xs → x < n) → Rises (xs ++ n ∷ [])
+pub Rises-push : (n : ℕ) (xs : List ℕ) → Rises xs → ((x : ℕ) → In x xs → x < n)
+    → Rises (xs ++ n ∷ [])
 Rises-push n [] r below = (tt, tt)
 Rises-push n (x ∷ xs) r below = (
   AllByRecursion-each (λ y. x < y) (xs ++ n ∷ []) (λ y i. elim (In-append y xs (n ∷ []) i) [
@@ -278,7 +286,8 @@ pub head-In : (n : ℕ) (xs : List ℕ) → slice_get xs 0 ≡ Some n → In n x
 head-In n [] e = cc
 head-In n (x ∷ xs) e = let is : x ≡ n = cc in inl (sym is)
 
-pub head-low : (n : ℕ) (xs : List ℕ) → Rises xs → slice_get xs 0 ≡ Some n → (x : ℕ) → In x xs → n ≤ x
+pub head-low : (n : ℕ) (xs : List ℕ) → Rises xs → slice_get xs 0 ≡ Some n → (x : ℕ) → In x xs
+    → n ≤ x
 head-low n [] r e x i = elim i [ ]
 head-low n (y ∷ xs) r e x (inl f) = let is : y ≡ n = cc in omega (arith, is, f)
 head-low n (y ∷ xs) r e x (inr i) = let is : y ≡ n = cc in
@@ -288,7 +297,11 @@ head-low n (y ∷ xs) r e x (inr i) = let is : y ≡ n = cc in
 pub but-head : (n : ℕ) (xs : List ℕ) → Rises xs → slice_get xs 0 ≡ Some n → but n xs ≡ drop 1 xs
 but-head n [] r e = cc
 but-head n (x ∷ xs) r e = let is : x ≡ n = cc in rw (number-same x n is) (but-none n xs (λ y i.
-    let more = AllByRecursion-In (λ z. x < z) y xs r.0 i in apart-above n y (omega (arith, more, is))))
+    let more = AllByRecursion-In (λ z. x < z) y xs r.0 i in apart-above n y (omega (
+      arith,
+      more,
+      is,
+    ))))
 
 pub In-some : {X : Type 0} (x : X) (xs : List X) → In x xs → 0 < length xs
 In-some x [] i = elim i [ ]

@@ -76,5 +76,6 @@ part_of-plain (Key p b) = refl
 
 -- the same keys are of the same part
 pub part_of-same : (k l : ShardKey) → is_same k l ≡ true → part_of k ≡ part_of l
-part_of-same k l e = part_of-plain k ∙ ap part_of-OrderingKey (same_key-true (plain_key k) (plain_key l) e)
+part_of-same k l e = part_of-plain k ∙ ap part_of-OrderingKey (same_key-true (plain_key k)
+    (plain_key l) e)
     ∙ sym (part_of-plain l)

@@ -44,7 +44,8 @@ pub record IsReady (order : Order) (p : ℕ) (es : List Entry) (o : ℕ) : Type 
 
 -- the state of a part: its entries rise, only those that are the first of their ordering key are
 -- busy, the ready offsets are those that are ready, and there is a place for each entry
-pub record IsPart (order : Order) (p : ℕ) (es : List Entry) (ready : List ℕ) (places : ℕ) : Type 0 where
+pub record IsPart (order : Order) (p : ℕ) (es : List Entry) (ready : List ℕ)
+    (places : ℕ) : Type 0 where
   pub rises : Rises (offsets_of es)
   pub firsts : BusyAreFirst order p es
   pub ready_rises : Rises ready

@@ -1,7 +1,7 @@
 //! The entries of one part in rising order of offsets, and beside them the offsets that are ready.
 //! Clauses see the entries by `plain_entries`.
 
-ghost use Rattle.std.specs.Prelude.{◌≡◌, ◌+◌, ◌<◌, ◌≤◌, ◌++◌, ◌∷◌, [], false, true, length, if◌then◌else◌, get_or, slice_index_or, vec_capacity, vec_len, OnOk};
+ghost use Rattle.std.specs.Prelude.{◌≡◌, ◌<◌, ◌≤◌, ◌++◌, ◌∷◌, [], false, true, length, if◌then◌else◌, slice_index_or, vec_capacity, vec_len, OnOk};
 ghost use Rattle.std.specs.Option.{option_copied};
 ghost use Rattle.pc_shards.specs.declared.part.EntryRef.{EntryRef};
 ghost use Rattle.pc_shards.specs.Entries.{with_busy, without};

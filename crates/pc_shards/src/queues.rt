@@ -30,8 +30,10 @@ impl<'a> Queues<'a> {
 
     /// Puts an offset at the end of the key's queue, and tells whether it is the first there.
     pub fn push(&mut self, key: ShardKey<'a>, offset: u64) -> Result<bool, AllocError>
-        ensures first { IfOk result (λ is_first. is_first ≡ (length (queue_of self.old key.entry) == 0)) }
-        ensures queue { OnOk result (queue_of self.new key.entry ≡ queue_of self.old key.entry ++ offset ∷ []) }
+        ensures first { IfOk result
+            (λ is_first. is_first ≡ (length (queue_of self.old key.entry) == 0)) }
+        ensures queue { OnOk result
+            (queue_of self.new key.entry ≡ queue_of self.old key.entry ++ offset ∷ []) }
         ensures others { OnOk result ((k : ShardKey) → is_same key.entry k ≡ false
             → queue_of self.new k ≡ queue_of self.old k) }
         ensures stays { OnErr result ((k : ShardKey) → queue_of self.new k ≡ queue_of self.old k) }

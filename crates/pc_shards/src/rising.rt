@@ -2,7 +2,7 @@
 
 ghost use Rattle.std.specs.Prelude.{◌≡◌, ◌<◌, ◌≤◌, length, vec_capacity, vec_len};
 ghost use Rattle.std.specs.List.{AllWithin};
-ghost use Rattle.pc_shards.specs.Rising.{In, Rises, but, put};
+ghost use Rattle.pc_shards.specs.Rising.{Rises, but, put};
 
 /// How many of the offsets are below this one.
 fn count_below(offsets: &[u64], offset: u64) -> usize
@@ -14,7 +14,7 @@ fn count_below(offsets: &[u64], offset: u64) -> usize
     offsets.partition_point(|o| *o < offset)
 }
 
-/// Puts an offset at its place, which is not there yet. Takes no memory.
+/// Puts an offset at its place, for which there is room. Takes no memory.
 pub fn insert(offsets: &mut Vec<u64>, offset: u64)
     requires rises { Rises offsets.old.items }
     requires room { vec_len offsets.old < vec_capacity offsets.old }

@@ -9,7 +9,8 @@ pub returns-clause-below : goal.returns-clause-below
 returns-clause-below c =
     let point = IsPartitionPoint-from_clause (λ (o : ℕ). ltb o c.args.offset) c.args.offsets.now
     c.partition_point.result c.partition_point.ensures.partitioned
-    (IsPartitionedBy-ltb (λ o. o) c.args.offsets.now c.args.offset (non_decreasing c.args.offsets.now c.requires))
+    (IsPartitionedBy-ltb (λ o. o) c.args.offsets.now c.args.offset
+    (non_decreasing c.args.offsets.now c.requires))
     (λ a r f' k. search rules) in
     λ k d low high. ltb-true _ _ (point.0 k d low high)
 
@@ -17,6 +18,7 @@ pub returns-clause-above : goal.returns-clause-above
 returns-clause-above c =
     let point = IsPartitionPoint-from_clause (λ (o : ℕ). ltb o c.args.offset) c.args.offsets.now
     c.partition_point.result c.partition_point.ensures.partitioned
-    (IsPartitionedBy-ltb (λ o. o) c.args.offsets.now c.args.offset (non_decreasing c.args.offsets.now c.requires))
+    (IsPartitionedBy-ltb (λ o. o) c.args.offsets.now c.args.offset
+    (non_decreasing c.args.offsets.now c.requires))
     (λ a r f' k. search rules) in
     λ k d low high. ltb-false _ _ (point.1 k d low high)

@@ -22,5 +22,6 @@ returns-else-at-as_slice-clause-offsets c =
           within below above (λ h e. w.if-index-offset.false (w.index.ensures ∙ e))
       | else-at-as_slice-via-else-at-as_slice w ↦ but-absent c.args.offset
           c.args.offsets.now.items c.count_below-at.result 0 c.requires.rises within below above
-          (λ h e. let past = rw c.as_slice-2.ensures.value at w.if-at-as_slice.false in omega (arith, h, past))
+          (λ h e. let past = rw c.as_slice-2.ensures.value at w.if-at-as_slice.false in
+          omega (arith, h, past))
     ])

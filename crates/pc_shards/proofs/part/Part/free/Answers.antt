@@ -5,8 +5,10 @@ use Rattle.pc_shards.proofs.part.Part.free.Goals as goal
 
 pub returns-then-set_busy-clause-same : goal.returns-then-set_busy-clause-same
 returns-then-set_busy-clause-same c = λ free. busy-or_free c.args.offset
-    (plain_entries c.args.self.now.entries.items) c.requires.holds.has c.if-set_busy.ensures.was free
+    (plain_entries c.args.self.now.entries.items) c.requires.holds.has c.if-set_busy.ensures.was
+    free
 
 pub returns-else-set_busy-clause-ready : goal.returns-else-set_busy-clause-ready
 returns-else-set_busy-clause-ready c = λ busy. busy-or_free c.args.offset
-    (plain_entries c.args.self.now.entries.items) c.requires.holds.has busy c.if-set_busy.ensures.was
+    (plain_entries c.args.self.now.entries.items) c.requires.holds.has busy
+    c.if-set_busy.ensures.was

@@ -11,12 +11,14 @@ use Rattle.pc_shards.proofs.part.Part.place.Goals as goal
 use Rattle.pc_shards.proofs.part.Part.place.Goals.{After-partition_point}
 
 found : (c : After-partition_point) → (c.partition_point.result < length c.as_slice.result.now)
-    × ((d : EntryRef) → (get_or c.as_slice.result.now c.partition_point.result d).offset ≡ c.args.offset)
+    × ((d : EntryRef) → (get_or c.as_slice.result.now c.partition_point.result d).offset
+    ≡ c.args.offset)
 found c =
     let es = c.as_slice.result.now in
     let rises = subst Rises (offsets-plain es) (subst (λ (xs : List EntryRef). Rises
     (offsets_of (plain_entries xs))) (sym c.as_slice.ensures.value) c.requires.rises) in
-    let has = subst (In c.args.offset) (offsets-plain es) (subst (λ (xs : List EntryRef). In c.args.offset
+    let has = subst (In c.args.offset) (offsets-plain es) (subst (λ
+    (xs : List EntryRef). In c.args.offset
     (offsets_of (plain_entries xs))) (sym c.as_slice.ensures.value) c.requires.has) in
     let point = IsPartitionPoint-from_clause (λ (e : EntryRef). ltb e.offset c.args.offset) es
     c.partition_point.result c.partition_point.ensures.partitioned

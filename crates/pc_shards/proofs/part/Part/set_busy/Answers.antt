@@ -13,7 +13,8 @@ returns-clause-entries c =
     subst (λ (x : EntryRef). plain_entries (set es c.place-at.result (record
     { offset = x.offset; key = x.key; is_busy = c.args.is_busy }))
     ≡ with_busy c.args.offset c.args.is_busy (plain_entries es)) (sym c.index-entry.ensures)
-    (set-marked c.args.offset c.args.is_busy es c.place-at.result d c.requires.rises c.place-at.ensures.within
+    (set-marked c.args.offset c.args.is_busy es c.place-at.result d c.requires.rises
+    c.place-at.ensures.within
     (c.place-at.ensures.place d))
 
 pub returns-clause-was : goal.returns-clause-was
@@ -22,5 +23,6 @@ returns-clause-was c =
     let d = c.index-entry.result.now in
     subst (λ (x : EntryRef). EachAt c.args.offset (plain_entries es) (λ e. e.is_busy ≡ x.is_busy))
     (sym c.index-entry.ensures) (each-at c.args.offset es c.place-at.result d
-    (λ e. e.is_busy ≡ (get_or es c.place-at.result d).is_busy) c.requires.rises c.place-at.ensures.within
+    (λ e. e.is_busy ≡ (get_or es c.place-at.result d).is_busy) c.requires.rises
+    c.place-at.ensures.within
     (c.place-at.ensures.place d) refl)

@@ -5,7 +5,8 @@ use Rattle.pc_shards.proofs.QueuesLemmas.{look-dropped, look-kept}
 use Rattle.pc_shards.proofs.queues.Queues.drop_part.Goals as goal
 
 pub returns-clause-dropped : goal.returns-clause-dropped
-returns-clause-dropped c = look-dropped (λ q. q.items) c.args.self.now.map c.retain.new.self c.args.part
+returns-clause-dropped c = look-dropped (λ q. q.items) c.args.self.now.map c.retain.new.self
+    c.args.part
     (filter-RetainsPairs _ _ _ (λ k v b w g call. search rules) _ _ c.retain.ensures.filtered)
 
 pub returns-clause-others : goal.returns-clause-others

@@ -8,8 +8,10 @@ returns-else-is_none-clause-next c =
     let wrote = (c.get_mut.follows.holds c.pop_front-next.new.self).3
     (ap (λ o. is_some o) (sym c.in_ok-queue.ensures.value)) in
     let new = look-updated (λ q. q.items) c.args.self.now.map
-    (c.get_mut.follows.lender c.pop_front-next.new.self) c.args.key (Some c.pop_front-next.new.self) wrote in
-    c.copied-next.ensures ∙ front-first c.pop_front-next.new.self.items c.front.result c.front.ensures.item
+    (c.get_mut.follows.lender c.pop_front-next.new.self) c.args.key
+    (Some c.pop_front-next.new.self) wrote in
+    c.copied-next.ensures ∙ front-first c.pop_front-next.new.self.items c.front.result
+    c.front.ensures.item
     ∙ ap (λ (xs : List ℕ). slice_get xs 0) (sym new)
 
 pub returns-else-is_none-clause-queue : goal.returns-else-is_none-clause-queue
@@ -17,8 +19,10 @@ returns-else-is_none-clause-queue c =
     let wrote = (c.get_mut.follows.holds c.pop_front-next.new.self).3
     (ap (λ o. is_some o) (sym c.in_ok-queue.ensures.value)) in
     let new = look-updated (λ q. q.items) c.args.self.now.map
-    (c.get_mut.follows.lender c.pop_front-next.new.self) c.args.key (Some c.pop_front-next.new.self) wrote in
-    let had = look-found (λ q. q.items) c.args.self.now.map c.args.key (Some c.in_ok-queue.queue.now)
+    (c.get_mut.follows.lender c.pop_front-next.new.self) c.args.key
+    (Some c.pop_front-next.new.self) wrote in
+    let had = look-found (λ q. q.items) c.args.self.now.map c.args.key
+    (Some c.in_ok-queue.queue.now)
     (sym c.in_ok-queue.ensures.value) in
     new ∙ c.pop_front-next.ensures.rest ∙ ap (λ (xs : List ℕ). drop 1 xs) (sym had)
 
@@ -33,9 +37,11 @@ returns-then-is_none-clause-queue c =
     let none : is_some c.copied-next.result ≡ false = c.if-is_none.ensures in
     let first = c.copied-next.ensures ∙ front-first c.pop_front-next.new.self.items c.front.result
     c.front.ensures.item in
-    let had = look-found (λ q. q.items) c.args.self.now.map c.args.key (Some c.in_ok-queue.queue.now)
+    let had = look-found (λ q. q.items) c.args.self.now.map c.args.key
+    (Some c.in_ok-queue.queue.now)
     (sym c.in_ok-queue.ensures.value) in
-    look-updated (λ q. q.items) (c.get_mut.follows.lender c.pop_front-next.new.self) c.swap_remove.new.self
+    look-updated (λ q. q.items) (c.get_mut.follows.lender c.pop_front-next.new.self)
+    c.swap_remove.new.self
     c.args.key None c.swap_remove.ensures.updates
     ∙ sym (empty-first c.pop_front-next.new.self.items
     (ap (λ (o : Option ℕ). is_some o) (sym first) ∙ none))

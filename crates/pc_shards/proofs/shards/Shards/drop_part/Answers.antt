@@ -10,5 +10,6 @@ returns-clause-dropped c = view-set c.self.inside.order c.self.inside.parts.item
     ∙ ap plain_entries c.clear.ensures.items
 
 pub returns-clause-others : goal.returns-clause-others
-returns-clause-others c = rw (← c.self.view_is) (changes-set c.self.inside.order c.self.inside.parts.items
+returns-clause-others c = rw (← c.self.view_is)
+    (changes-set c.self.inside.order c.self.inside.parts.items
     c.args.part (record { entries = c.clear.new.self; ready = c.clear-2.new.self }))
