@@ -1,0 +1,14 @@
+pub mod Lists
+pub mod RisingLemmas
+pub mod ShardKeyLemmas
+pub mod QueuesLemmas
+pub mod PartLemmas
+pub mod EntriesLemmas
+pub mod AddedEntries
+pub mod MarkedEntries
+pub mod TakenEntries
+pub mod EntriesLaws
+pub mod ShardsLemmas
+pub mod ShardsDone
+pub mod ShardsAdded
+pub mod OpenEntriesLaws

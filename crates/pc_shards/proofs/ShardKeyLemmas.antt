@@ -1,0 +1,81 @@
+-- Ordering keys, and those with lent bytes.
+use Rattle.std.proofs.Common.{◌≡◌, ℕ, true, ◌==◌, List, Option, Some, None, refl, ap, sym, subst, ◌∙◌}
+use Rattle.std.proofs.lemmas.Slice.Eq.{bytes_eq-Decides}
+use Rattle.pc_model.specs.Next.{OrderingKey, same_key, same_bytes}
+use Rattle.pc_model.specs.Next.OrderingKey.{OfRecord, OfPart, OfKey}
+use Rattle.pc_shards.specs.declared.shard_key.ShardKey.{ShardKey}
+use Rattle.pc_shards.specs.declared.shard_key.ShardKey.TheVariants.{Record, Part, Key}
+use Rattle.pc_shards.specs.contracts.shard_key.ShardKeyPartialEq.TheImpl as key_eq
+use Rattle.pc_shards.specs.ShardKey.{is_same, part_of, plain_key}
+use Rattle.pc_shards.proofs.Lists.{and-left, and-right, number-is, number-same, same_test}
+
+-- ---- ordering keys
+
+pub same_key-refl : (k : OrderingKey) → same_key k k ≡ true
+same_key-refl (OfRecord p o) = rw (number-same p p refl, number-same o o refl) refl
+same_key-refl (OfPart p) = number-same p p refl
+same_key-refl (OfKey p None) = rw (number-same p p refl) refl
+same_key-refl (OfKey p (Some a)) = rw (number-same p p refl, (bytes_eq-Decides a a).1 refl) refl
+
+bytes-true : (a b : Option (List ℕ)) → same_bytes a b ≡ true → a ≡ b
+bytes-true None None e = refl
+bytes-true (Some a) (Some b) e = ap (λ (x : List ℕ). Some x) ((bytes_eq-Decides a b).0 e)
+bytes-true None (Some b) e = cc
+bytes-true (Some a) None e = cc
+
+pub same_key-true : (a b : OrderingKey) → same_key a b ≡ true → a ≡ b
+same_key-true (OfRecord p o) (OfRecord q u) e =
+    ap (λ (x : ℕ). OfRecord x o) (number-is p q (and-left _ _ e)) ∙ ap (λ (x : ℕ). OfRecord q x)
+    (number-is o u (and-right (p == q) _ e))
+same_key-true (OfRecord p o) (OfPart q) e = cc
+same_key-true (OfRecord p o) (OfKey q b) e = cc
+same_key-true (OfPart p) (OfRecord q u) e = cc
+same_key-true (OfPart p) (OfPart q) e = ap (λ (x : ℕ). OfPart x) (number-is p q e)
+same_key-true (OfPart p) (OfKey q b) e = cc
+same_key-true (OfKey p a) (OfRecord q u) e = cc
+same_key-true (OfKey p a) (OfPart q) e = cc
+same_key-true (OfKey p a) (OfKey q b) e =
+    ap (λ (x : ℕ). OfKey x a) (number-is p q (and-left _ _ e))
+    ∙ ap (λ (x : Option (List ℕ)). OfKey q x) (bytes-true a b (and-right (p == q) _ e))
+
+pub same_key-is : (a b : OrderingKey) → a ≡ b → same_key a b ≡ true
+same_key-is a b e = subst (λ c. same_key a c ≡ true) e (same_key-refl a)
+
+pub same_key-sym : (a b : OrderingKey) → same_key a b ≡ same_key b a
+same_key-sym a b = same_test (same_key a b) (same_key b a)
+    (λ e. same_key-is b a (sym (same_key-true a b e)))
+    (λ e. same_key-is a b (sym (same_key-true b a e)))
+
+-- ---- keys with lent bytes
+
+-- their equality in the code is that of the ordering keys
+pub eq-is_same : (k l : ShardKey) → key_eq.eq-value.it k l ≡ is_same k l
+eq-is_same (Record p o) (Record q u) = refl
+eq-is_same (Record p o) (Part q) = refl
+eq-is_same (Record p o) (Key q b) = refl
+eq-is_same (Part p) (Record q u) = refl
+eq-is_same (Part p) (Part q) = refl
+eq-is_same (Part p) (Key q b) = refl
+eq-is_same (Key p a) (Record q u) = refl
+eq-is_same (Key p a) (Part q) = refl
+eq-is_same (Key p None) (Key q None) = refl
+eq-is_same (Key p None) (Key q (Some b)) = refl
+eq-is_same (Key p (Some a)) (Key q None) = refl
+eq-is_same (Key p (Some a)) (Key q (Some b)) = refl
+
+part_of-OrderingKey : OrderingKey → ℕ
+part_of-OrderingKey (OfRecord p o) = p
+part_of-OrderingKey (OfPart p) = p
+part_of-OrderingKey (OfKey p a) = p
+
+part_of-plain : (k : ShardKey) → part_of k ≡ part_of-OrderingKey (plain_key k)
+unfolding part_of-OrderingKey
+part_of-plain (Record p o) = refl
+part_of-plain (Part p) = refl
+part_of-plain (Key p b) = refl
+
+-- the same keys are of the same part
+pub part_of-same : (k l : ShardKey) → is_same k l ≡ true → part_of k ≡ part_of l
+part_of-same k l e = part_of-plain k ∙ ap part_of-OrderingKey (same_key-true (plain_key k)
+    (plain_key l) e)
+    ∙ sym (part_of-plain l)

@@ -1,0 +1,138 @@
+//! The shards. Clauses see the order, and the entries of each part in the order in which they were
+//! added.
+
+ghost use Rattle.std.specs.Prelude.{◌≡◌, ℕ, ◌<◌, ◌++◌, ◌∷◌, [], false, true, OnErr, OnOk};
+ghost use Rattle.std.specs.List.{All};
+ghost use Rattle.std.specs.Option.{option_copied};
+ghost use Rattle.pc_shards.specs.Shards.{HasRoomAt, KeepsParts};
+ghost use Rattle.pc_shards.specs.Entries.{BusyAreFirst, ChangesNothing, ChangesOnly, is_first_offset, least_ready_of, of_part, with_busy, without};
+
+use crate::part::Part;
+use crate::queues::Queues;
+use crate::shard_key;
+use pc_model::Order;
+use std::alloc::{AllocError, Global};
+use std::marker::Model;
+
+/// The polled, incomplete records of all parts by their ordering keys. The key bytes are lent.
+///
+/// An offset is ready where it is the first of its ordering key and not busy.
+#[derive(Drop)]
+pub struct Shards<'a> {
+    alloc: Global,
+    order: Order,
+    // The offsets of each ordering key.
+    queues: Queues<'a>,
+    // The parts from 0 on.
+    parts: Vec<Part<'a>>,
+}
+
+impl<'a> Model for Shards<'a> {
+    ghost use Rattle.pc_shards.specs.Entries.{Entries};
+    ghost use Rattle.pc_shards.specs.Shards.{IsShards, all_entries};
+
+    ghost Value = { Entries };
+
+    ghost view = { λ s. record { order = s.order; parts = all_entries s.parts.items } };
+
+    ghost invariant = { λ s. IsShards s.order s.queues s.parts.items };
+}
+
+impl<'a> Shards<'a> {
+    /// No part has an entry.
+    pub fn new(alloc: Global, order: Order) -> Shards<'a>
+        ensures order { result.order ≡ order }
+        ensures empty { (p : ℕ) → of_part result p ≡ [] }
+    {
+        Shards {
+            alloc,
+            order,
+            queues: Queues::new(alloc),
+            parts: Vec::new(alloc),
+        }
+    }
+
+    /// Adds a record that was polled and is incomplete, above all of its part that are there. It is
+    /// not busy. Makes the room that the other calls need.
+    pub fn add(&mut self, part: u32, offset: u64, key: Option<&'a [u8]>) -> Result<(), AllocError>
+        requires { All (λ e. e.offset < offset) (of_part self.old part) }
+        ensures added { OnOk result (of_part self.new part ≡ of_part self.old part ++
+            record { offset = offset; key = option_copied key.entry; is_busy = false } ∷ []) }
+        ensures others { OnOk result (ChangesOnly part self.old self.new) }
+        ensures stays { OnErr result (ChangesNothing self.old self.new) }
+    {
+        make_room(&mut self.parts, self.alloc, part as usize)?;
+        let shard = shard_key::of_record(self.order, part, offset, key);
+        let is_first = self.queues.push(shard, offset)?;
+        self.parts[part as usize].push(offset, key, is_first);
+        Ok(())
+    }
+
+    /// The least offset of the part that is the first of its ordering key and not busy. Of an
+    /// ordering key no other than the first is busy.
+    pub fn least_ready(&self, part: u32) -> Option<u64>
+        ensures least { result ≡ least_ready_of self.now.order part (of_part self.now part) }
+        ensures singly { BusyAreFirst self.now.order part (of_part self.now part) }
+    {
+        let state = self.parts.as_slice().get(part as usize)?;
+        state.ready.as_slice().first().copied()
+    }
+
+    /// Makes an offset busy that is the first of its ordering key, so that no other of the key is
+    /// ready before it is free or done. Takes no memory.
+    pub fn busy(&mut self, part: u32, offset: u64)
+        requires { is_first_offset self.old.order part (of_part self.old part) offset ≡ true }
+        ensures busy { of_part self.new part ≡ with_busy offset true (of_part self.old part) }
+        ensures others { ChangesOnly part self.old self.new }
+    {
+        self.parts[part as usize].busy(offset);
+    }
+
+    /// Makes an offset ready again that is the first of its ordering key. Takes no memory.
+    pub fn free(&mut self, part: u32, offset: u64)
+        requires { is_first_offset self.old.order part (of_part self.old part) offset ≡ true }
+        ensures free { of_part self.new part ≡ with_busy offset false (of_part self.old part) }
+        ensures others { ChangesOnly part self.old self.new }
+    {
+        self.parts[part as usize].free(offset);
+    }
+
+    /// Takes out an offset that is the first of its ordering key, and is busy or not. The next of
+    /// the key is ready then. Takes no memory.
+    pub fn done(&mut self, part: u32, offset: u64)
+        requires { is_first_offset self.old.order part (of_part self.old part) offset ≡ true }
+        ensures done { of_part self.new part ≡ without offset (of_part self.old part) }
+        ensures others { ChangesOnly part self.old self.new }
+    {
+        let state = &mut self.parts[part as usize];
+        let key = state.take(offset);
+        let shard = shard_key::of_record(self.order, part, offset, key);
+        if let Some(next) = self.queues.pop(shard) {
+            state.make_ready(next);
+        }
+    }
+
+    /// Takes out all of the part. Takes no memory.
+    pub fn drop_part(&mut self, part: u32)
+        ensures dropped { of_part self.new part ≡ [] }
+        ensures others { ChangesOnly part self.old self.new }
+    {
+        let Some(state) = self.parts.get_mut(part as usize) else {
+            return;
+        };
+        state.entries.clear();
+        state.ready.clear();
+        self.queues.drop_part(part);
+    }
+}
+
+/// Makes room for one more entry of the part at this place.
+fn make_room<'a>(parts: &mut Vec<Part<'a>>, alloc: Global, at: usize) -> Result<(), AllocError>
+    ensures kept { KeepsParts parts.old.items parts.new.items }
+    ensures made { OnOk result (HasRoomAt at parts.new.items) }
+{
+    'grow: while parts.as_slice().len() <= at {
+        parts.push(Part::new(alloc))?;
+    }
+    parts[at].reserve()
+}

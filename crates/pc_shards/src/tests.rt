@@ -1,0 +1,113 @@
+//! What no clause says: that memory is found.
+
+ghost use Rattle.std.specs.Prelude.{◌≡◌, ℕ, true, [], IfOk, IfSome};
+ghost use Rattle.pc_shards.specs.Entries.{is_first_offset, of_part};
+
+use crate::Shards;
+use pc_model::Order;
+use std::alloc::{AllocError, Global};
+use std::test::Fail;
+
+/// An order, the keys of offsets 0, 1 and 2, which offsets are ready after the first, one by one,
+/// and which is ready when the first is done.
+const ROWS: [(
+    Order,
+    Option<&[u8]>,
+    Option<&[u8]>,
+    Option<&[u8]>,
+    Option<u64>,
+    Option<u64>,
+    Option<u64>,
+); 5] = [
+    (Order::Key, None, Some(b""), None, Some(1), None, Some(2)),
+    (
+        Order::Key,
+        Some(b"a"),
+        Some(b"ab"),
+        Some(b"a"),
+        Some(1),
+        None,
+        Some(2),
+    ),
+    (
+        Order::Key,
+        Some(b"ab"),
+        Some(b"a"),
+        Some(b"b"),
+        Some(1),
+        Some(2),
+        None,
+    ),
+    (Order::None, None, None, None, Some(1), Some(2), None),
+    (
+        Order::Partition,
+        None,
+        Some(b""),
+        Some(b"a"),
+        None,
+        None,
+        Some(1),
+    ),
+];
+
+#[test]
+fn keys_run_one_by_one(rt: HostRuntime) -> Result<(), Fail> {
+    for (order, first_key, second_key, third_key, second, third, next) in ROWS {
+        let mut shards = three(rt.alloc(), order, first_key, second_key, third_key)?;
+        let Some(first) = busy_next(&mut shards) else {
+            panic!(&rt; "none is ready");
+        };
+        assert_eq!(rt; first, 0);
+        assert_eq!(rt; busy_next(&mut shards), second);
+        assert_eq!(rt; busy_next(&mut shards), third);
+        shards.done(0, first);
+        assert_eq!(rt; shards.least_ready(0), next);
+    }
+    Ok(())
+}
+
+#[test]
+fn parts_are_apart(rt: HostRuntime) -> Result<(), Fail> {
+    let mut shards = three(rt.alloc(), Order::Key, None, None, None)?;
+    shards.add(2, 7, None)?;
+    let Some(first) = busy_next(&mut shards) else {
+        panic!(&rt; "none is ready");
+    };
+    assert_eq!(rt; shards.least_ready(0), None);
+    assert_eq!(rt; shards.least_ready(1), None);
+    assert_eq!(rt; shards.least_ready(2), Some(7));
+    shards.free(0, first);
+    shards.drop_part(2);
+    assert_eq!(rt; shards.least_ready(0), Some(0));
+    assert_eq!(rt; shards.least_ready(2), None);
+    Ok(())
+}
+
+/// Part 0 with the offsets 0, 1 and 2.
+fn three(
+    alloc: Global,
+    order: Order,
+    first: Option<&'static [u8]>,
+    second: Option<&'static [u8]>,
+    third: Option<&'static [u8]>,
+) -> Result<Shards<'static>, AllocError>
+    ensures { IfOk result (λ shards. of_part shards 2 ≡ []) }
+{
+    let mut shards = Shards::new(alloc, order);
+    shards.add(0, 0, first)?;
+    shards.add(0, 1, second)?;
+    shards.add(0, 2, third)?;
+    Ok(shards)
+}
+
+/// Makes the least ready offset of part 0 busy.
+fn busy_next(shards: &mut Shards<'_>) -> Option<u64>
+    ensures first { IfSome result (λ o.
+        is_first_offset shards.new.order 0 (of_part shards.new 0) o ≡ true) }
+    ensures stays { (o : ℕ) → is_first_offset shards.old.order 0 (of_part shards.old 0) o ≡ true
+        → is_first_offset shards.new.order 0 (of_part shards.new 0) o ≡ true }
+{
+    let offset = shards.least_ready(0)?;
+    shards.busy(0, offset);
+    Some(offset)
+}
