@@ -1,6 +1,6 @@
 -- What the client asks has a frame, and what a broker answers of it.
-use Rattle.std.proofs.Common.{◌≡◌, ◌⊎◌, ℕ, zero, suc, ◌+◌, ◌^◌, ◌<◌, ◌≤◌, ℤ, pos, negsuc, Bool, true, false, cond, List, [], ◌∷◌, ◌++◌, length, take, Option, Some, None, Result, Ok, Err, refl, sym, ap, subst, ◌∙◌, inl, inr, arith, true≢false}
-use Rattle.std.specs.Prelude.{FitsSigned, bytes_eq, nat_lt, not, unsigned_abs, unwrap_or, is_err, find, int_lt, ⊤}
+use Rattle.std.proofs.Common.{◌≡◌, ◌⊎◌, ℕ, zero, suc, ◌+◌, ◌^◌, ◌<◌, ℤ, pos, negsuc, Bool, true, false, cond, List, [], ◌∷◌, length, Option, Some, None, Result, Ok, Err, refl, sym, ap, subst, ◌∙◌, inl, inr, arith, true≢false}
+use Rattle.std.specs.Prelude.{FitsSigned, bytes_eq, nat_lt, not, unwrap_or, is_err, is_ok, IsOk, find, ⊤}
 use Rattle.std.specs.Int.{w16, w32, w64, cast_signed, cast_unsigned}
 use Rattle.std.specs.List.{AllByRecursion, list_any}
 use Rattle.std.specs.Option.{option_map}
@@ -19,14 +19,14 @@ use Rattle.std.specs.Str.{IsAscii}
 use Rattle.pc_model.specs.declared.commit.Commit.{Commit}
 use Rattle.pc_model.specs.declared.api.TheConstants.{NO_ERROR, UNKNOWN_TOPIC_OR_PARTITION, OFFSET_METADATA_TOO_LARGE, ILLEGAL_GENERATION, UNKNOWN_MEMBER_ID, METADATA_MAX}
 use Rattle.pc_model.specs.declared.wire_fault.WireFault.{WireFault}
-use Rattle.pc_model.specs.Messages.{Topic, CommitItem, CommitRequest, CommitReply, FetchRequest, FetchReply, IsString, IsNullable, IsTopic, AreTopics, IsCommitRequest, IsCommitReply, IsEntry, IsFetchRequest, IsFetchReply, FetchEntry, commit_request_body, fetch_request_body, frame_spelling}
+use Rattle.pc_model.specs.Messages.{Topic, CommitItem, CommitRequest, FetchRequest, IsString, IsTopic, AreTopics, IsCommitRequest, IsCommitReply, IsEntry, IsFetchRequest, IsFetchReply, FetchEntry, commit_request_body, fetch_request_body, frame_spelling}
 use Rattle.pc_model.specs.MessageReading.{commit_reply_reading, fetch_reply_reading}
 use Rattle.pc_model.specs.Given.{no_commit}
-use Rattle.pc_model.specs.Broker.{Broker, Membership, Request, Commits, Fetches, Refusal, TooLong, request_reading, broker_step, step_of, reply_body, after_request, after_items, after_item, after_some, item_code, membership_of, membership_refusal, metadata_text, stored_for, is_for, has_part, commit_reply_of, fetch_reply_of, fetch_entry, entry_of, unknown_entry, Stored}
+use Rattle.pc_model.specs.Broker.{Broker, Membership, Request, Commits, Fetches, Refusal, TooLong, request_reading, broker_step, step_of, reply_body, after_request, after_items, after_some, item_code, membership_of, membership_refusal, metadata_text, stored_for, is_for, has_part, commit_reply_of, fetch_reply_of, fetch_entry, entry_of, unknown_entry, Stored}
 use Rattle.pc_world.specs.World.{AreStorable, IsStorable, MayStore}
 use Rattle.pc_offset_client.specs.declared.fault.ClientFault.{ClientFault}
 use Rattle.pc_offset_client.specs.declared.fault.ClientFault.TheVariants.{LinkFailed, Refused, BadReply, OtherReply, NoMemory}
-use Rattle.pc_offset_client.specs.Client.{CLIENT, GROUP, TOPIC, ◌>>=◌, accepted, commit_answer, commit_question, entry_commit, fetch_answer, fetch_question, item_of, only_item, only_one, reply_of, same, same_topic, Accepts, Refuses, CommitGives, FetchGives, commit_code, kept_for, with_commit}
+use Rattle.pc_offset_client.specs.Client.{CLIENT, GROUP, TOPIC, ◌>>=◌, accepted, commit_answer, commit_question, entry_commit, fetch_answer, fetch_question, item_of, only_item, only_one, reply_of, same, same_topic, Accepts, CommitGives, FetchGives, commit_code, kept_for, with_commit}
 use Rattle.pc_offset_wire.proofs.MessageLaws.{commits-read, fetches-read, commit_reply-read, fetch_reply-read}
 
 -- ---- what is asked fits
@@ -73,17 +73,23 @@ question-fits id part c id_fits part_fits position_fits short utf8 = record {
   retention = fits_signed_from_abs w64 (negsuc 0) (omega arith);
   topics = record {
     few = omega arith;
-    each = (record {
-      name = topic-string;
-      items = record {
-        few = omega arith;
-        each = (record {
-          part = fits_signed_from_abs w32 (pos part) (omega arith);
-          position = record { fits = fits_signed_from_abs w64 (pos c.position) (omega arith); above = c.position; is = ap pos (omega arith) };
-          metadata = record { short = omega arith; utf8 = utf8 };
-        }, tt);
-      };
-    }, tt);
+    each = (
+      record {
+        name = topic-string;
+        items = record {
+          few = omega arith;
+          each = (
+            record {
+              part = fits_signed_from_abs w32 (pos part) (omega arith);
+              position = record { fits = fits_signed_from_abs w64 (pos c.position) (omega arith); above = c.position; is = ap pos (omega arith) };
+              metadata = record { short = omega arith; utf8 = utf8 };
+            },
+            tt,
+          );
+        };
+      },
+      tt,
+    );
   };
   spelled = record { short = omega (arith, body-length id part c); is = refl };
 }
@@ -96,13 +102,16 @@ fetch_question-fits id part id_fits part_fits = record {
   group = group-string;
   topics = record {
     few = omega arith;
-    each = (record {
-      name = topic-string;
-      items = record {
-        few = omega arith;
-        each = (fits_signed_from_abs w32 (pos part) (omega arith), tt);
-      };
-    }, tt);
+    each = (
+      record {
+        name = topic-string;
+        items = record {
+          few = omega arith;
+          each = (fits_signed_from_abs w32 (pos part) (omega arith), tt);
+        };
+      },
+      tt,
+    );
   };
   spelled = record { short = omega (arith, fetch-body-length id part); is = refl };
 }
@@ -128,9 +137,14 @@ pub question-fits_by : (id : ℤ) (part : ℕ) (c : Commit) (x y : ℤ) (z : Lis
       } ∷ [];
     })
 question-fits_by id part c x y z x_is y_is z_is id_fits part_fits position_fits short utf8 =
-    rw (to_z-of_z w32 id id_fits, x_is, y_is, z_is,
-    to_z-of_z w32 (pos part) (fits_signed_from_abs w32 (pos part) (omega arith)),
-    to_z-of_z w64 (pos c.position) (fits_signed_from_abs w64 (pos c.position) (omega arith)))
+    rw (
+      to_z-of_z w32 id id_fits,
+      x_is,
+      y_is,
+      z_is,
+      to_z-of_z w32 (pos part) (fits_signed_from_abs w32 (pos part) (omega arith)),
+      to_z-of_z w64 (pos c.position) (fits_signed_from_abs w64 (pos c.position) (omega arith)),
+    )
     (question-fits id part c id_fits part_fits position_fits short (rw z_is at utf8))
 
 pub fetch_question-fits_by : (id : ℤ) (part : ℕ) (x : ℤ) → x ≡ pos part → FitsSigned w32 id → part < 2 ^ 31
@@ -270,16 +284,22 @@ reply-is b b' id part c reply id_fits part_fits step = record {
   correlation = id_fits;
   topics = record {
     few = omega arith;
-    each = (record {
-      name = topic-string;
-      items = record {
-        few = omega arith;
-        each = (record {
-          part = fits_signed_from_abs w32 (pos part) (omega arith);
-          code = code-fits b (commit_question id part c) TOPIC (item_of part c);
-        }, tt);
-      };
-    }, tt);
+    each = (
+      record {
+        name = topic-string;
+        items = record {
+          few = omega arith;
+          each = (
+            record {
+              part = fits_signed_from_abs w32 (pos part) (omega arith);
+              code = code-fits b (commit_question id part c) TOPIC (item_of part c);
+            },
+            tt,
+          );
+        };
+      },
+      tt,
+    );
   };
   spelled = record { short = step.short; is = step.is };
 }
@@ -407,14 +427,20 @@ fetch_reply-is b b' id part reply id_fits part_fits storable step = record {
   correlation = id_fits;
   topics = record {
     few = omega arith;
-    each = (record {
-      name = topic-string;
-      items = record {
-        few = omega arith;
-        each = (entry-is b (has_part b TOPIC (pos part)) (stored_for b GROUP part)
-            (λ c is. find-storable (is_for GROUP part) b.commits c storable is) part part_fits, tt);
-      };
-    }, tt);
+    each = (
+      record {
+        name = topic-string;
+        items = record {
+          few = omega arith;
+          each = (
+            entry-is b (has_part b TOPIC (pos part)) (stored_for b GROUP part)
+                (λ c is. find-storable (is_for GROUP part) b.commits c storable is) part part_fits,
+            tt,
+          );
+        };
+      },
+      tt,
+    );
   };
   spelled = record { short = step.short; is = step.is };
 }
@@ -449,9 +475,11 @@ unfolding the_entry
 fetch-told b b' id part frame reply id_fits part_fits storable asked stepped =
     let read = fetches-read frame (fetch_question id part) asked in
     let step = is_step b b' (Fetches (fetch_question id part)) reply
-    (subst (λ r. step_of b r ≡ Ok (reply, b')) read stepped) in
-    (subst (FetchGives b part) (sym (fetch_answer-is b b' id part reply id_fits part_fits storable step))
-    (entry-gives b part (has_part b TOPIC (pos part)) (stored_for b GROUP part) refl refl), step.after)
+    (subst (λ r. step_of b r ≡ Ok (reply, b')) read stepped) in (
+      subst (FetchGives b part) (sym (fetch_answer-is b b' id part reply id_fits part_fits storable step))
+          (entry-gives b part (has_part b TOPIC (pos part)) (stored_for b GROUP part) refl refl),
+      step.after,
+    )
 
 pub fetch-may_store : (b b' : Broker) (id : ℤ) (part : ℕ) (frame : List ℕ)
     → IsFetchRequest frame (fetch_question id part) → MayStore (request_reading frame) b b' → b' ≡ b
@@ -482,3 +510,62 @@ only_item-is P topics x are is =
     let topic = bind-ok (only_one topics) _ x is in
     let named = bind-ok (same_topic topic.0.name) _ x topic.2 in
     only_one-is P topic.0.items x (only_one-is (IsTopic P) topics topic.0 are.each topic.1).items.each named.2
+
+-- ---- the calls of the client, by what their parts answered
+
+pub commit-reads : (frame items : List ℕ) (q : CommitRequest) → frame ≡ items → IsCommitRequest items q → IsOk (request_reading frame)
+commit-reads frame items q same asked = subst (λ (f : List ℕ). IsOk (request_reading f)) (sym same) (ap is_ok (commits-read items q asked))
+
+pub fetch-reads : (frame items : List ℕ) (q : FetchRequest) → frame ≡ items → IsFetchRequest items q → IsOk (request_reading frame)
+fetch-reads frame items q same asked = subst (λ (f : List ℕ). IsOk (request_reading f)) (sym same) (ap is_ok (fetches-read items q asked))
+
+-- the frame did not come through
+pub commit-unsent : (b b' : Broker) (id : ℤ) (part : ℕ) (c : Commit) (frame items : List ℕ) (r : Result (Unit {0}) ClientFault) (f : ClientFault)
+    → frame ≡ items → IsCommitRequest items (commit_question id part c) → r ≡ Err f → (f ≡ LinkFailed) ⊎ (f ≡ NoMemory)
+    → (f ≡ LinkFailed → MayStore (request_reading frame) b b') → (f ≡ NoMemory → b' ≡ b)
+    → CommitGives b b' part c r
+commit-unsent b b' id part c frame items r f same asked was (inl failed) may none =
+    subst (CommitGives b b' part c) (sym (was ∙ ap (λ (x : ClientFault). Err x) failed))
+    (commit-may_store b b' id part c frame (subst (λ (x : List ℕ). IsCommitRequest x (commit_question id part c)) (sym same) asked) (may failed))
+commit-unsent b b' id part c frame items r f same asked was (inr memory) may none =
+    subst (CommitGives b b' part c) (sym (was ∙ ap (λ (x : ClientFault). Err x) memory)) (none memory)
+
+pub fetch-unsent : (b b' : Broker) (id : ℤ) (part : ℕ) (frame items : List ℕ) (f : ClientFault)
+    → frame ≡ items → IsFetchRequest items (fetch_question id part) → (f ≡ LinkFailed) ⊎ (f ≡ NoMemory)
+    → (f ≡ LinkFailed → MayStore (request_reading frame) b b') → (f ≡ NoMemory → b' ≡ b) → b' ≡ b
+fetch-unsent b b' id part frame items f same asked (inl failed) may none =
+    fetch-may_store b b' id part frame (subst (λ (x : List ℕ). IsFetchRequest x (fetch_question id part)) (sym same) asked) (may failed)
+fetch-unsent b b' id part frame items f same asked (inr memory) may none = none memory
+
+-- a reply came
+pub commit-replied : (b b' : Broker) (id : ℤ) (part : ℕ) (c : Commit) (frame items text reply : List ℕ) (r : Result (Unit {0}) ClientFault)
+    → part < 2 ^ 31 → frame ≡ items → IsCommitRequest items (commit_question id part c)
+    → broker_step b frame ≡ Ok (reply, b') → text ≡ reply → r ≡ commit_answer id part text → CommitGives b b' part c r
+commit-replied b b' id part c frame items text reply r part_fits same asked stepped same_text is =
+    subst (CommitGives b b' part c) (sym (is ∙ ap (commit_answer id part) same_text))
+    (commit-told b b' id part c frame reply asked.correlation part_fits
+    (subst (λ (x : List ℕ). IsCommitRequest x (commit_question id part c)) (sym same) asked) stepped)
+
+pub fetch-replied : (b b' : Broker) (id : ℤ) (part : ℕ) (frame items text reply : List ℕ) (r : Result Commit ClientFault)
+    → part < 2 ^ 31 → AreStorable b → frame ≡ items → IsFetchRequest items (fetch_question id part)
+    → broker_step b frame ≡ Ok (reply, b') → text ≡ reply → (r ≡ Err NoMemory) ⊎ (r ≡ fetch_answer id part text) → FetchGives b part r × (b' ≡ b)
+fetch-replied b b' id part frame items text reply r part_fits storable same asked stepped same_text is =
+    let told = fetch-told b b' id part frame reply asked.correlation part_fits storable
+    (subst (λ (x : List ℕ). IsFetchRequest x (fetch_question id part)) (sym same) asked) stepped in (
+      elim is [
+        | inl memory ↦ subst (FetchGives b part) (sym memory) tt
+        | inr answer ↦ subst (FetchGives b part) (sym (answer ∙ ap (fetch_answer id part) same_text)) told.0
+      ],
+      told.1,
+    )
+
+-- no answer says that the link failed
+pub commit-cause : (id : ℤ) (part : ℕ) (text : List ℕ) (r : Result (Unit {0}) ClientFault) → r ≡ commit_answer id part text → r ≡ Err LinkFailed → ⊥
+commit-cause id part text r is failed = subst IsReplyFault (sym is ∙ failed) (commit_answer-fault id part text)
+
+memory-not-link : ◌≡◌ {A = Result Commit ClientFault} (Err NoMemory) (Err LinkFailed) → ⊥
+memory-not-link is = cc
+
+pub fetch-cause : (id : ℤ) (part : ℕ) (text : List ℕ) (r : Result Commit ClientFault) → (r ≡ Err NoMemory) ⊎ (r ≡ fetch_answer id part text) → r ≡ Err LinkFailed → ⊥
+fetch-cause id part text r (inl memory) failed = memory-not-link (sym memory ∙ failed)
+fetch-cause id part text r (inr is) failed = subst IsReplyFault (sym is ∙ failed) (fetch_answer-fault id part text)

@@ -1,12 +1,12 @@
 -- What the client asks, and what a reply answers.
-use Rattle.std.specs.Prelude.{ℕ, ◌-◌, ◌^◌, ◌<◌, ◌≡◌, ◌⊎◌, ℤ, pos, true, false, if◌then◌else◌, int_lt, unsigned_abs, List, [], ◌∷◌, length, min, bytes_eq, Option, Some, None, unwrap_or, Result, Ok, Err, codes, ⊤}
+use Rattle.std.specs.Prelude.{ℕ, ◌-◌, ◌^◌, ◌<◌, ◌≡◌, ◌⊎◌, ℤ, pos, true, false, if◌then◌else◌, int_lt, unsigned_abs, List, [], ◌∷◌, length, min, bytes_eq, Some, unwrap_or, Result, Ok, Err, codes, ⊤}
 use Rattle.std.proofs.Common.{negsuc}
 use Rattle.std.specs.Ordering.{int_eq}
 use Rattle.pc_model.specs.declared.commit.Commit.{Commit}
 use Rattle.pc_model.specs.declared.api.TheConstants.{NO_ERROR, UNKNOWN_TOPIC_OR_PARTITION}
 use Rattle.pc_model.specs.declared.wire_fault.WireFault.{WireFault}
 use Rattle.pc_model.specs.Given.{no_commit}
-use Rattle.pc_model.specs.Messages.{Topic, CommitItem, CommitRequest, CommitCode, CommitReply, FetchRequest, FetchEntry, FetchReply}
+use Rattle.pc_model.specs.Messages.{Topic, CommitItem, CommitRequest, FetchRequest, FetchEntry}
 use Rattle.pc_model.specs.MessageReading.{commit_reply_reading, fetch_reply_reading}
 use Rattle.pc_model.specs.Broker.{Broker, has_part, item_code, metadata_text, stored_for, with_stored}
 use Rattle.pc_offset_client.specs.declared.fault.ClientFault.{ClientFault}

@@ -7,7 +7,7 @@ ghost use Rattle.pc_model.specs.MessageReading.{commit_code_at, entry_at, topic_
 ghost use Rattle.pc_offset_client.specs.declared.fault.ClientFault.TheVariants.{NoMemory};
 ghost use Rattle.pc_offset_wire.specs.Items.{items_left};
 ghost use Rattle.pc_offset_wire.specs.Views.{plain_commit_code, plain_fetch_entry, plain_part_entry};
-ghost use Rattle.pc_offset_client.specs.Client.{IsFrameCommit, commit_answer, entry_commit, fetch_answer, only_item, only_one, same, same_topic};
+ghost use Rattle.pc_offset_client.specs.Client.{IsFrameCommit, accepted, commit_answer, entry_commit, fetch_answer, only_item, only_one, same, same_topic};
 
 use crate::fault::ClientFault;
 use crate::question::{TOPIC, part_id};
@@ -99,6 +99,16 @@ pub(crate) fn of_commit(id: i32, part: u32, reply: &[u8]) -> Result<(), ClientFa
     Ok(())
 }
 
+/// Refuses an entry with a code that is not 0.
+fn accepted(entry: &FetchEntry<'_>) -> Result<(), ClientFault>
+    ensures { result ≡ accepted (plain_fetch_entry entry.now).code }
+{
+    if entry.code != NO_ERROR {
+        return Err(ClientFault::Refused(entry.code));
+    }
+    Ok(())
+}
+
 /// The entry for the part in a reply.
 #[tactic(auto, unfolding(crate::specs::Client::fetch_answer))]
 fn entry_in(id: i32, part: u32, reply: &[u8]) -> Result<FetchEntry<'_>, ClientFault>
@@ -112,9 +122,7 @@ fn entry_in(id: i32, part: u32, reply: &[u8]) -> Result<FetchEntry<'_>, ClientFa
     same(id, reply.correlation)?;
     let (found, entry) = only_entry(reply.topics())?;
     same(part_id(part), found)?;
-    if entry.code != NO_ERROR {
-        return Err(ClientFault::Refused(entry.code));
-    }
+    accepted(&entry)?;
     Ok(entry)
 }
 

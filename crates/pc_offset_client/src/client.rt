@@ -7,9 +7,8 @@ ghost use Rattle.pc_world.specs.World.{AreStorable, HasRisen, MayStore};
 ghost use Rattle.pc_offset_client.specs.Client.{CommitGives, FetchGives, IsAnswer, IsFrameCommit, commit_answer, fetch_answer};
 ghost use Rattle.pc_offset_client.specs.declared.fault.ClientFault.TheVariants.{LinkFailed, NoMemory};
 
-use crate::answer;
 use crate::fault::ClientFault;
-use crate::question;
+use crate::{answer, question};
 use pc_model::Commit;
 use pc_world::{Link, LinkFault};
 use std::alloc::Global;

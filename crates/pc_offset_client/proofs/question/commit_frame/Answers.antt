@@ -1,5 +1,5 @@
 -- The question has a frame.
-use Rattle.std.proofs.Common.{◌≡◌, Err, ap}
+use Rattle.std.proofs.Common.{Err, ap}
 use Rattle.std.proofs.lemmas.Str.{is_utf8-from_IsUtf8}
 use Rattle.pc_model.specs.Messages.{commit_request_body, frame_spelling}
 use Rattle.pc_offset_client.specs.Client.{commit_question}

@@ -1,5 +1,5 @@
 -- The question has a frame.
-use Rattle.std.proofs.Common.{◌≡◌, Err, ap}
+use Rattle.std.proofs.Common.{Err, ap}
 use Rattle.pc_model.specs.Messages.{fetch_request_body, frame_spelling}
 use Rattle.pc_offset_client.specs.Client.{fetch_question}
 use Rattle.pc_offset_client.proofs.ClientLaws.{fetch_question-fits_by}
