@@ -138,7 +138,7 @@ impl<L: Link> Client<L> {
 }
 
 /// The id after one.
-fn after(id: i32) -> i32
+pub(crate) fn after(id: i32) -> i32
     requires { int_lt (pos 0) id ≡ true }
     ensures { int_lt (pos 0) result ≡ true }
 {

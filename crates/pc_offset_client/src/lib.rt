@@ -10,3 +10,6 @@ mod question;
 pub use client::Client;
 pub use fault::ClientFault;
 pub use question::{CLIENT, GROUP, TOPIC};
+
+#[cfg(test)]
+mod tests;
