@@ -1,5 +1,5 @@
 -- What a broker stores of a request that failed.
-use Rattle.std.proofs.Common.{◌≡◌, ◌∙◌, ℕ, ◌≤◌, List, length, Result, Ok, Err, IsOk, refl, sym, ap, true≢false, arith}
+use Rattle.std.proofs.Common.{◌≡◌, ◌∙◌, ℕ, List, length, Result, Ok, Err, IsOk, refl, sym, ap, true≢false, arith}
 use Rattle.std.specs.Prelude.{Bool, true, false, cond, nat_lt, is_err, ◌^◌}
 use Rattle.std.proofs.lemmas.List.{take_all}
 use Rattle.pc_model.specs.declared.wire_fault.WireFault.{WireFault}

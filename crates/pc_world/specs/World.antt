@@ -18,19 +18,6 @@ pub record AppendsFile (most : ℕ) (told : Option (List ℕ)) (before after : L
   pub short : length contents ≤ most
   pub as_told : (bytes : List ℕ) → told ≡ Some bytes → contents ≡ bytes
 
--- the part has this commit now, and each other part the one that it had
-pub record KeepsAt (before after : ℕ → Commit) (part : ℕ) (commit : Commit) : Type 0 where
-  pub changed : after part ≡ commit
-  pub others : (q : ℕ) → (q ≡ part → ⊥) → after q ≡ before q
-
--- every part has the commit that it had
-abbrev pub KeepsAll : (ℕ → Commit) → (ℕ → Commit) → Type 0
-KeepsAll before after = (q : ℕ) → after q ≡ before q
-
--- the part has this commit now or the one that it had, and each other part the one that it had
-abbrev pub MayKeepAt : (ℕ → Commit) → (ℕ → Commit) → ℕ → Commit → Type 0
-MayKeepAt before after part commit = KeepsAll before after ⊎ KeepsAt before after part commit
-
 -- a broker stored some first items of a request, from none to all
 pub record MayStore (read : Result Request WireFault) (before after : Broker) : Type 0 where
   pub request : Request

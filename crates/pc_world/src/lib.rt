@@ -1,15 +1,13 @@
-//! The outside of parcon as traits: files that are read, a sink that is written, and a keeper of
-//! commits, each with a count of its faults. A fault is answered only where the count rose.
+//! The outside of parcon as traits: files that are read, a sink that is written, and a link to a
+//! broker of offsets, each with a count of its faults. A fault is answered only where the count rose.
 #![tactic(auto)]
 
 mod disk_files;
 mod failing_link;
 mod faults;
 mod files;
-mod keeper;
 mod link;
 mod memory_files;
-mod memory_keeper;
 mod memory_sink;
 mod sink;
 mod std_sink;
@@ -17,10 +15,8 @@ mod std_sink;
 pub use disk_files::DiskFiles;
 pub use failing_link::FailingLink;
 pub use files::{FILE_BYTES_MAX, Files, FilesFault};
-pub use keeper::{Keeper, KeeperFault};
 pub use link::{FRAME_BYTES_MAX, Link, LinkFault};
 pub use memory_files::MemoryFiles;
-pub use memory_keeper::MemoryKeeper;
 pub use memory_sink::MemorySink;
 pub use sink::{Sink, SinkFailed};
 pub use std_sink::StdSink;

@@ -1,5 +1,5 @@
 -- What stands behind the bytes that were there is what was read.
-use Rattle.std.proofs.Common.{◌≡◌, ◌++◌, ◌≤◌, take, drop, vec_len, length, sym, ap, ◌∙◌, arith, length-drop}
+use Rattle.std.proofs.Common.{◌++◌, drop, vec_len, sym, ap, ◌∙◌, arith, length-drop}
 use Rattle.std.proofs.lemmas.List.{take-append-drop}
 use Rattle.pc_world.proofs.disk_files.DiskFilesFiles.read.Goals as goal
 

@@ -1,5 +1,5 @@
-use Rattle.std.proofs.Common.{◌≡◌, sym, ap, subst}
-use Rattle.pc_model.specs.Broker.{Broker, request_reading}
+use Rattle.std.proofs.Common.{sym, subst}
+use Rattle.pc_model.specs.Broker.{request_reading}
 use Rattle.pc_world.specs.World.{MayStore}
 use Rattle.pc_world.proofs.LinkLemmas.{MayStore-none, MayStore-all}
 use Rattle.pc_world.proofs.failing_link.FailingLinkLink.call.Goals as goal
