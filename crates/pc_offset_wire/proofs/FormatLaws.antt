@@ -1,7 +1,7 @@
 -- Fields and their readings: what is spelled is read, and what is read was spelled.
-use Rattle.std.proofs.Common.{◌≡◌, ℕ, zero, suc, ◌+◌, ◌^◌, ◌<◌, ◌≤◌, ℤ, pos, negsuc, Bool, true, false, cond, ltb, List, [], ◌∷◌, ◌++◌, length, get_or, take, drop, Option, Some, None, Result, Ok, Err, refl, sym, ap, subst, ◌∙◌, append_assoc, arith}
+use Rattle.std.proofs.Common.{◌≡◌, ℕ, zero, suc, ◌^◌, ◌<◌, ◌≤◌, ℤ, pos, negsuc, Bool, true, false, cond, ltb, List, [], ◌∷◌, ◌++◌, length, get_or, take, drop, Option, Some, None, Result, Ok, Err, refl, sym, ap, subst, ◌∙◌, append_assoc, arith}
 use Rattle.std.specs.Prelude.{FitsSigned, int_lt, ◌≤ℤ◌, not, T}
-use Rattle.std.specs.Int.{Width, w16, w32, w64, byte_len, cast_signed, cast_unsigned, from_be_bytes}
+use Rattle.std.specs.Int.{Width, w16, w32, w64, byte_len, cast_signed, cast_unsigned}
 use Rattle.std.specs.List.{AllByRecursion, flat_map}
 use Rattle.std.specs.Ordering.{int_eq}
 use Rattle.std.specs.Str.{is_utf8}
@@ -10,16 +10,16 @@ use Rattle.std.proofs.lemmas.Bool.Decides.{Decides-int_eq}
 use Rattle.std.proofs.lemmas.Cmp.{int_eq_equiv}
 use Rattle.std.specs.Int.Signed.{clash_ℤ, lt_z_no}
 use Rattle.std.proofs.lemmas.Int.{ints, to_z-of_z, of_z-to_z}
-use Rattle.std.proofs.lemmas.List.{take_at, drop_at, take-append-drop, length-append, length-take, get_or-take}
+use Rattle.std.proofs.lemmas.List.{take_at, drop_at, take-append-drop, length-append, length-take}
 use Rattle.std.proofs.lemmas.Nat.{be_bytes_2, be_bytes_4, be_bytes_8}
 use Rattle.std.proofs.Math.Facts.{Fits-of_z, sfits_to_z}
-use mir.Val.{Fits, bits}
+use mir.Val.{bits}
 use Rattle.byteorder.specs.Endian.{big_bytes, big_number}
 use Rattle.byteorder.specs.Numbers.{big_from-take, big_number-reads_back, length-bytes_high_first}
 use Rattle.pc_model.specs.declared.wire_fault.WireFault.{WireFault}
 use Rattle.pc_model.specs.declared.wire_fault.WireFault.TheVariants.{Short, BadOffset, NotUtf8}
-use Rattle.pc_model.specs.Messages.{Topic, int_spelling, string_spelling, nullable_spelling, array_spelling, topic_spelling, IsString, IsNullable, IsArray, IsTopic, IsPosition}
-use Rattle.pc_model.specs.MessageReading.{◌>>=◌, part_at, int_at, size_of, size_at, some_text, text_of, text_at, string_at, nullable_of, nullable_at, items_at, array_at, topic_at, same_as, fixed_at, not_below, position_at}
+use Rattle.pc_model.specs.Messages.{int_spelling, string_spelling, nullable_spelling, array_spelling, IsString, IsNullable, IsArray, IsPosition}
+use Rattle.pc_model.specs.MessageReading.{◌>>=◌, part_at, int_at, size_of, size_at, some_text, text_of, text_at, string_at, nullable_of, nullable_at, items_at, array_at, same_as, fixed_at, not_below, position_at}
 use Rattle.pc_offset_wire.proofs.ItemLemmas.{bind_ok}
 use Rattle.pc_offset_wire.proofs.WritingLemmas.{is_position}
 
@@ -111,7 +111,7 @@ int-only w wide bytes z rest fits e =
     let spelled : int_spelling w (cast_signed w (big_number k bytes)) ≡ front = ap (λ (m : ℕ). int_spelling w (cast_signed w m)) same ∙ ap (big_bytes k) (of_z-to_z w n small) ∙ wide.back front front_len front_fits in
     let range : FitsSigned w (cast_signed w (big_number k bytes)) = subst (λ (m : ℕ). FitsSigned w (cast_signed w m)) (sym same) (sfits_to_z (record { fits = small })) in
     let whole : (bytes ≡ int_spelling w (cast_signed w (big_number k bytes)) ++ drop k bytes) × FitsSigned w (cast_signed w (big_number k bytes)) =
-        (sym (take-append-drop k bytes) ∙ ap (λ (x : List ℕ). x ++ drop k bytes) (sym spelled), range) in
+    (sym (take-append-drop k bytes) ∙ ap (λ (x : List ℕ). x ++ drop k bytes) (sym spelled), range) in
     subst (λ (y : ℤ × List ℕ). (bytes ≡ int_spelling w y.0 ++ y.1) × FitsSigned w y.0) g.1 whole
 
 pub int-format : (w : Width) → IsWide w → IsFormat (int_at w) (int_spelling w) (FitsSigned w)
@@ -371,7 +371,7 @@ module _ {A B : Type 0} {at : List ℕ → Result (A × List ℕ) WireFault} {sp
         let first = format.only bytes a.0.0 a.0.1 fits a.1 in
         let h = has a.0.0 in
         let made : Has (make a.0.0) × ((bytes ≡ spelled_first (get (make a.0.0)) ++ a.0.1) × Holds_first (get (make a.0.0))) =
-            (h.0, (first.0 ∙ ap (λ (x : A). spelled_first x ++ a.0.1) (sym h.1), subst Holds_first (sym h.1) first.1)) in
+        (h.0, (first.0 ∙ ap (λ (x : A). spelled_first x ++ a.0.1) (sym h.1), subst Holds_first (sym h.1) first.1)) in
         subst (λ (y : B × List ℕ). Has y.0 × ((bytes ≡ spelled_first (get y.0) ++ y.1) × Holds_first (get y.0))) (ok_is (make a.0.0, a.0.1) (b, rest) a.2) made
 
     pub last : IsRest (λ bytes. at bytes >>= λ x. done (make x.0, x.1)) (λ b. spelled_first (get b)) (λ b. Holds_first (get b)) Has

@@ -3,3 +3,5 @@ pub mod ItemLemmas
 pub mod WritingLemmas
 pub mod ReplyLemmas
 pub mod FormatLaws
+pub mod ItemLaws
+pub mod MessageLaws

@@ -1,5 +1,5 @@
 -- The topics of a reply, one after the other.
-use Rattle.std.proofs.Common.{◌≡◌, ℕ, ◌+◌, ◌<◌, ◌≤◌, List, [], ◌∷◌, ◌++◌, length, map, get_or, take, drop, Result, Ok, Err, refl, sym, ap, subst, ◌∙◌, arith}
+use Rattle.std.proofs.Common.{◌≡◌, ℕ, ◌+◌, ◌<◌, List, [], ◌∷◌, ◌++◌, length, get_or, take, drop, Err, refl, sym, ap, ◌∙◌, arith}
 use Rattle.std.specs.List.{zip, AllByRecursion, flat_map}
 use Rattle.std.proofs.lemmas.List.{length-map, nil_from_length, drop_more}
 use Rattle.std.proofs.lemmas.Slice.Zip.{length-zip}

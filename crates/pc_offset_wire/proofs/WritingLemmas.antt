@@ -8,7 +8,7 @@ use Rattle.std.proofs.lemmas.Int.{ints}
 use Rattle.std.proofs.lemmas.List.{append-nil, at_drop_more, drop_all}
 use Rattle.std.proofs.lemmas.Str.{is_utf8-from_IsUtf8}
 use Rattle.pc_model.specs.declared.api.TheConstants.{OFFSET_COMMIT, OFFSET_COMMIT_VERSION}
-use Rattle.pc_model.specs.Messages.{Topic, CommitItem, CommitRequest, FetchEntry, IsString, IsNullable, IsArray, IsTopic, AreTopics, IsFrame, IsCommitRequest, IsPosition, IsCommitItem, IsEntry, int_spelling, string_spelling, nullable_spelling, array_spelling, topic_spelling, header_spelling, commit_item_spelling, entry_spelling, topics_spelling, commit_request_body}
+use Rattle.pc_model.specs.Messages.{CommitItem, CommitRequest, FetchEntry, IsString, IsNullable, IsArray, IsTopic, AreTopics, IsFrame, IsCommitRequest, IsPosition, IsCommitItem, IsEntry, int_spelling, string_spelling, nullable_spelling, array_spelling, topic_spelling, header_spelling, commit_item_spelling, entry_spelling, topics_spelling, commit_request_body}
 use Rattle.pc_offset_wire.specs.declared.write_fault.WireWriteFault.{WireWriteFault}
 use Rattle.pc_offset_wire.specs.declared.write_fault.WireWriteFault.TheVariants.{TooLong, NoMemory}
 use Rattle.pc_offset_wire.specs.Writing.{Puts, IsCommitBody}
@@ -110,7 +110,7 @@ commit_item-put result item old a b new part fits above ea eb h =
     Puts-front result (int_spelling w32 item.part) (int_spelling w64 item.position ++ nullable_spelling item.metadata) old a new (IsCommitItem item) ea
     (Puts-front result (int_spelling w64 item.position) (nullable_spelling item.metadata) a b new (IsCommitItem item) eb
     (Puts-same result (nullable_spelling item.metadata) b new (IsNullable item.metadata) (IsCommitItem item)
-        (λ metadata. record { part = part; position = is_position (pos 0) item.position fits above; metadata = metadata }) (λ w. w.metadata) h))
+    (λ metadata. record { part = part; position = is_position (pos 0) item.position fits above; metadata = metadata }) (λ w. w.metadata) h))
 
 pub entry-put : (item : ℤ × FetchEntry) (old a b c new : List ℕ) → FitsSigned w32 item.0 → FitsSigned w64 item.1.position → negsuc 0 ≤ℤ item.1.position → FitsSigned w16 item.1.code → a ≡ old ++ int_spelling w32 item.0 → b ≡ a ++ int_spelling w64 item.1.position → (c ≡ b ++ nullable_spelling item.1.metadata) × IsNullable item.1.metadata → new ≡ c ++ int_spelling w16 item.1.code → (new ≡ old ++ entry_spelling item) × IsEntry item
 entry-put item old a b c new part fits above code ea eb ec h =
@@ -134,7 +134,7 @@ commit_request-put result m old a b c d e new correlation generation retention e
     (Puts-front result (string_spelling m.member) fourth c d new (IsCommitBody m) ed.0
     (Puts-front result (int_spelling w64 m.retention) last d e new (IsCommitBody m) ee
     (Puts-same result last e new (AreTopics IsCommitItem m.topics) (IsCommitBody m)
-        (λ topics. record { correlation = correlation; client = ea.1; group = eb.1; generation = generation; member = ed.1; retention = retention; topics = topics }) (λ w. w.topics) h)))))
+    (λ topics. record { correlation = correlation; client = ea.1; group = eb.1; generation = generation; member = ed.1; retention = retention; topics = topics }) (λ w. w.topics) h)))))
 
 -- ---- a body in its frame
 

@@ -1,5 +1,5 @@
 -- What is read, without where it lies in memory.
-use Rattle.std.specs.Prelude.{ℤ, pos, List, ℕ, Result}
+use Rattle.std.specs.Prelude.{ℤ}
 use Rattle.std.specs.Option.{option_copied}
 use Rattle.pc_model.specs.Messages as messages
 use Rattle.pc_model.specs.MessageReading.{topic_at, commit_item_at, commit_code_at, part_id_at, entry_at}

@@ -1,7 +1,6 @@
 -- What is written: texts put one behind the other, and the requests by their arguments.
-use Rattle.std.specs.Prelude.{◌≡◌, ℕ, ◌^◌, ◌<◌, ◌≤◌, ℤ, pos, ◌≤ℤ◌, List, ◌++◌, map, length, All, Option, Result, Ok, Err, FitsSigned}
+use Rattle.std.specs.Prelude.{◌≡◌, ℕ, ℤ, pos, ◌≤ℤ◌, List, ◌++◌, map, All, Option, Result, Ok, Err, FitsSigned}
 use Rattle.std.specs.Int.{w32, w64}
-use Rattle.std.specs.Option.{option_copied}
 use Rattle.pc_model.specs.Messages as messages
 use Rattle.pc_model.specs.Messages.{IsString, IsNullable, AreTopics, IsFrame, IsCommitItem, IsCommitCode, IsPart, IsEntry}
 use Rattle.pc_offset_wire.specs.declared.write_fault.WireWriteFault.{WireWriteFault}

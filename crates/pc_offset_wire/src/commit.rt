@@ -7,9 +7,8 @@ ghost use Rattle.pc_offset_wire.specs.Reading.{Gives};
 ghost use Rattle.pc_offset_wire.specs.Items.{items_left};
 ghost use Rattle.pc_offset_wire.specs.Views.{commit_item_of, commit_code_of, commit_request_of, commit_reply_of};
 
-use crate::fields;
-use crate::frame;
 use crate::items::{self, Items, WireItem};
+use crate::{fields, frame};
 use pc_model::WireFault;
 use pc_model::api::{OFFSET_COMMIT, OFFSET_COMMIT_VERSION};
 
@@ -71,7 +70,9 @@ impl<'a> WireItem<'a> for CommitItem<'a> {
     ghost use Rattle.pc_offset_wire.specs.Views.{commit_item_of};
 
     ghost Plain = { PlainCommitItem };
+
     ghost plain = { commit_item_of };
+
     ghost at = { commit_item_at };
 
     #[tactic(auto, unfolding(pc_model::specs::MessageReading::commit_item_at))]
@@ -96,7 +97,9 @@ impl<'a> WireItem<'a> for CommitCode {
     ghost use Rattle.pc_offset_wire.specs.Views.{commit_code_of};
 
     ghost Plain = { PlainCommitCode };
+
     ghost plain = { commit_code_of };
+
     ghost at = { commit_code_at };
 
     #[tactic(auto, unfolding(pc_model::specs::MessageReading::commit_code_at))]
@@ -167,8 +170,17 @@ fn commit_reply(bytes: &[u8]) -> Result<(CommitReply<'_>, &[u8]), WireFault>
     ))
 }
 
-/// Reads the commit request that a frame is. What is refused has its first fault.
+/// The request that a frame is, or its first fault.
 #[tactic(auto, unfolding(pc_model::specs::MessageReading::frame_reading))]
+fn framed_commit_request(frame: &[u8]) -> Result<CommitRequest<'_>, WireFault>
+    ensures { Gives commit_request_of result (commit_request_reading frame.now) }
+{
+    let body = frame::body(frame)?;
+    let (request, rest) = commit_request(body)?;
+    frame::whole(request, rest)
+}
+
+/// Reads the commit request that a frame is. What is refused has its first fault.
 pub fn read_commit_request<'a>(frame: &'a [u8]) -> Result<CommitRequest<'a>, WireFault>
     // What is read is a request, and a request is read.
     ensures found { IfOk result (λ r. IsCommitRequest frame.now (commit_request_of r)) }
@@ -177,13 +189,20 @@ pub fn read_commit_request<'a>(frame: &'a [u8]) -> Result<CommitRequest<'a>, Wir
     // Which fault it is.
     ensures exact { Gives commit_request_of result (commit_request_reading frame.now) }
 {
+    framed_commit_request(frame)
+}
+
+/// The reply that a frame is, or its first fault.
+#[tactic(auto, unfolding(pc_model::specs::MessageReading::frame_reading))]
+fn framed_commit_reply(frame: &[u8]) -> Result<CommitReply<'_>, WireFault>
+    ensures { Gives commit_reply_of result (commit_reply_reading frame.now) }
+{
     let body = frame::body(frame)?;
-    let (request, rest) = commit_request(body)?;
-    frame::whole(request, rest)
+    let (reply, rest) = commit_reply(body)?;
+    frame::whole(reply, rest)
 }
 
 /// Reads the commit reply that a frame is. What is refused has its first fault.
-#[tactic(auto, unfolding(pc_model::specs::MessageReading::frame_reading))]
 pub fn read_commit_reply<'a>(frame: &'a [u8]) -> Result<CommitReply<'a>, WireFault>
     // What is read is a reply, and a reply is read.
     ensures found { IfOk result (λ r. IsCommitReply frame.now (commit_reply_of r)) }
@@ -192,7 +211,5 @@ pub fn read_commit_reply<'a>(frame: &'a [u8]) -> Result<CommitReply<'a>, WireFau
     // Which fault it is.
     ensures exact { Gives commit_reply_of result (commit_reply_reading frame.now) }
 {
-    let body = frame::body(frame)?;
-    let (reply, rest) = commit_reply(body)?;
-    frame::whole(reply, rest)
+    framed_commit_reply(frame)
 }

@@ -29,9 +29,13 @@ impl PutItem for CommitItem<'_> {
     ghost use Rattle.pc_offset_wire.specs.Writing.{IsStorable};
 
     ghost Plain = { PlainCommitItem };
+
     ghost plain = { commit_item_of };
+
     ghost spelled = { commit_item_spelling };
+
     ghost IsItem = { IsCommitItem };
+
     ghost IsPutable = { IsStorable };
 
     fn put(&self, out: &mut Vec<u8>) -> Result<(), WireWriteFault> {
@@ -46,9 +50,13 @@ impl PutItem for CommitTopic<'_> {
     ghost use Rattle.pc_offset_wire.specs.Writing.{AreStorable, commit_topic_of};
 
     ghost Plain = { Topic PlainCommitItem };
+
     ghost plain = { commit_topic_of };
+
     ghost spelled = { topic_spelling commit_item_spelling };
+
     ghost IsItem = { IsTopic IsCommitItem };
+
     ghost IsPutable = { AreStorable };
 
     fn put(&self, out: &mut Vec<u8>) -> Result<(), WireWriteFault> {
@@ -62,9 +70,13 @@ impl PutItem for CommitCode {
     ghost use Rattle.pc_offset_wire.specs.Views.{commit_code_of};
 
     ghost Plain = { PlainCommitCode };
+
     ghost plain = { commit_code_of };
+
     ghost spelled = { commit_code_spelling };
+
     ghost IsItem = { IsCommitCode };
+
     ghost IsPutable = { λ _. Unit {0} };
 
     fn put(&self, out: &mut Vec<u8>) -> Result<(), WireWriteFault> {
@@ -92,7 +104,13 @@ fn put_commit_request(
         Puts (commit_request_body message) (IsCommitBody message) out.old.items out.new.items
         result }
 {
-    put::put_header(out, OFFSET_COMMIT, OFFSET_COMMIT_VERSION, correlation, client)?;
+    put::put_header(
+        out,
+        OFFSET_COMMIT,
+        OFFSET_COMMIT_VERSION,
+        correlation,
+        client,
+    )?;
     put::put_string(out, group)?;
     put::put_i32(out, generation)?;
     put::put_string(out, member)?;
@@ -101,11 +119,7 @@ fn put_commit_request(
 }
 
 /// Puts an array of the parts that were asked, each with its code.
-fn put_codes(
-    out: &mut Vec<u8>,
-    items: CommitItems<'_>,
-    codes: &[i16],
-) -> Result<(), WireWriteFault>
+fn put_codes(out: &mut Vec<u8>, items: CommitItems<'_>, codes: &[i16]) -> Result<(), WireWriteFault>
     requires { length codes.now ≡ length (items_left commit_item_at items) }
     ensures { let made = answered_items code_of (items_left commit_item_at items.entry) codes.now in
         Puts (array_spelling commit_code_spelling made) (IsArray IsCommitCode made) out.old.items
@@ -184,7 +198,14 @@ pub fn write_commit_request(
 {
     let mut body = Vec::new(alloc);
     put_commit_request(
-        &mut body, correlation, client, group, generation, member, retention, topics,
+        &mut body,
+        correlation,
+        client,
+        group,
+        generation,
+        member,
+        retention,
+        topics,
     )?;
     put::frame_of(alloc, &body)
 }

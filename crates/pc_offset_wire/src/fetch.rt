@@ -7,9 +7,8 @@ ghost use Rattle.pc_offset_wire.specs.Reading.{Gives};
 ghost use Rattle.pc_offset_wire.specs.Items.{items_left};
 ghost use Rattle.pc_offset_wire.specs.Views.{fetch_entry_of, fetch_request_of, fetch_reply_of};
 
-use crate::fields;
-use crate::frame;
 use crate::items::{self, Items, WireItem};
+use crate::{fields, frame};
 use pc_model::WireFault;
 use pc_model::api::{OFFSET_FETCH, OFFSET_FETCH_VERSION};
 
@@ -57,7 +56,9 @@ impl<'a> WireItem<'a> for i32 {
     ghost use Rattle.pc_model.specs.MessageReading.{part_id_at};
 
     ghost Plain = { ℤ };
+
     ghost plain = { λ part. part };
+
     ghost at = { part_id_at };
 
     #[tactic(auto, unfolding(pc_model::specs::MessageReading::part_id_at))]
@@ -73,7 +74,9 @@ impl<'a> WireItem<'a> for (i32, FetchEntry<'a>) {
     ghost use Rattle.pc_offset_wire.specs.Views.{part_entry_of};
 
     ghost Plain = { ℤ × PlainFetchEntry };
+
     ghost plain = { part_entry_of };
+
     ghost at = { entry_at };
 
     #[tactic(auto, unfolding(pc_model::specs::MessageReading::entry_at))]
@@ -144,8 +147,17 @@ fn fetch_reply(bytes: &[u8]) -> Result<(FetchReply<'_>, &[u8]), WireFault>
     ))
 }
 
-/// Reads the fetch request that a frame is. What is refused has its first fault.
+/// The request that a frame is, or its first fault.
 #[tactic(auto, unfolding(pc_model::specs::MessageReading::frame_reading))]
+fn framed_fetch_request(frame: &[u8]) -> Result<FetchRequest<'_>, WireFault>
+    ensures { Gives fetch_request_of result (fetch_request_reading frame.now) }
+{
+    let body = frame::body(frame)?;
+    let (request, rest) = fetch_request(body)?;
+    frame::whole(request, rest)
+}
+
+/// Reads the fetch request that a frame is. What is refused has its first fault.
 pub fn read_fetch_request<'a>(frame: &'a [u8]) -> Result<FetchRequest<'a>, WireFault>
     // What is read is a request, and a request is read.
     ensures found { IfOk result (λ r. IsFetchRequest frame.now (fetch_request_of r)) }
@@ -154,13 +166,20 @@ pub fn read_fetch_request<'a>(frame: &'a [u8]) -> Result<FetchRequest<'a>, WireF
     // Which fault it is.
     ensures exact { Gives fetch_request_of result (fetch_request_reading frame.now) }
 {
+    framed_fetch_request(frame)
+}
+
+/// The reply that a frame is, or its first fault.
+#[tactic(auto, unfolding(pc_model::specs::MessageReading::frame_reading))]
+fn framed_fetch_reply(frame: &[u8]) -> Result<FetchReply<'_>, WireFault>
+    ensures { Gives fetch_reply_of result (fetch_reply_reading frame.now) }
+{
     let body = frame::body(frame)?;
-    let (request, rest) = fetch_request(body)?;
-    frame::whole(request, rest)
+    let (reply, rest) = fetch_reply(body)?;
+    frame::whole(reply, rest)
 }
 
 /// Reads the fetch reply that a frame is. What is refused has its first fault.
-#[tactic(auto, unfolding(pc_model::specs::MessageReading::frame_reading))]
 pub fn read_fetch_reply<'a>(frame: &'a [u8]) -> Result<FetchReply<'a>, WireFault>
     // What is read is a reply, and a reply is read.
     ensures found { IfOk result (λ r. IsFetchReply frame.now (fetch_reply_of r)) }
@@ -169,7 +188,5 @@ pub fn read_fetch_reply<'a>(frame: &'a [u8]) -> Result<FetchReply<'a>, WireFault
     // Which fault it is.
     ensures exact { Gives fetch_reply_of result (fetch_reply_reading frame.now) }
 {
-    let body = frame::body(frame)?;
-    let (reply, rest) = fetch_reply(body)?;
-    frame::whole(reply, rest)
+    framed_fetch_reply(frame)
 }

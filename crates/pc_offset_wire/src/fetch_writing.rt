@@ -28,9 +28,13 @@ impl PutItem for i32 {
     ghost use Rattle.pc_model.specs.Messages.{part_spelling, IsPart};
 
     ghost Plain = { ℤ };
+
     ghost plain = { λ part. part };
+
     ghost spelled = { part_spelling };
+
     ghost IsItem = { IsPart };
+
     ghost IsPutable = { λ _. Unit {0} };
 
     fn put(&self, out: &mut Vec<u8>) -> Result<(), WireWriteFault> {
@@ -45,9 +49,13 @@ impl PutItem for FetchTopic<'_> {
     ghost use Rattle.pc_offset_wire.specs.Writing.{fetch_topic_of};
 
     ghost Plain = { Topic ℤ };
+
     ghost plain = { fetch_topic_of };
+
     ghost spelled = { topic_spelling part_spelling };
+
     ghost IsItem = { IsTopic IsPart };
+
     ghost IsPutable = { λ _. Unit {0} };
 
     fn put(&self, out: &mut Vec<u8>) -> Result<(), WireWriteFault> {
@@ -75,11 +83,7 @@ fn put_fetch_request(
 }
 
 /// Puts a part and what is stored for it.
-fn put_entry(
-    out: &mut Vec<u8>,
-    part: i32,
-    entry: &FetchEntry<'_>,
-) -> Result<(), WireWriteFault>
+fn put_entry(out: &mut Vec<u8>, part: i32, entry: &FetchEntry<'_>) -> Result<(), WireWriteFault>
     requires { IsAnswerable entry.now }
     ensures { let item = entry_for part entry.now in
         Puts (entry_spelling item) (IsEntry item) out.old.items out.new.items result }

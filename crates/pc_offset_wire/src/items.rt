@@ -14,6 +14,7 @@ use std::marker::PhantomData;
 pub trait WireItem<'a>: Copy {
     /// The item without where it lies in memory.
     ghost Plain: { Type 0 };
+
     ghost plain: { Self → Plain };
 
     /// The reading of it.
@@ -36,7 +37,7 @@ impl<'a, T> Items<'a, T> {
     /// At most so many items, at the front of the bytes.
     pub(crate) fn of(bytes: &'a [u8], count: u32) -> Items<'a, T>
         ensures few { result.count < 2 ^ 32 }
-        ensures fields { result ≡ record { bytes = bytes.entry; count = count; of = record { } } }
+        ensures fields { result ≡ record { bytes = bytes.entry; count = count; of = record {} } }
     {
         Items {
             bytes,
@@ -59,7 +60,9 @@ fn skip<'a, T: WireItem<'a>>(count: u32, bytes: &'a [u8]) -> Result<&'a [u8], Wi
 }
 
 /// An array: a count, and so many items, each of them checked.
-pub(crate) fn array<'a, T: WireItem<'a>>(bytes: &'a [u8]) -> Result<(Items<'a, T>, &'a [u8]), WireFault>
+pub(crate) fn array<'a, T: WireItem<'a>>(
+    bytes: &'a [u8],
+) -> Result<(Items<'a, T>, &'a [u8]), WireFault>
     ensures { Gives (λ x. (items_left T.at x.0, x.1.now)) result (array_at T.at bytes.now) }
 {
     let (count, bytes) = fields::count_at(bytes)?;

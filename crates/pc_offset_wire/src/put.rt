@@ -22,10 +22,12 @@ const COUNT_MAX: usize = i32::MAX as usize;
 pub(crate) trait PutItem {
     /// The item without where it lies in memory.
     ghost Plain: { Type 0 };
+
     ghost plain: { Self → Plain };
 
     /// Its spelling, and what has one.
     ghost spelled: { Plain → List ℕ };
+
     ghost IsItem: { Plain → Type 0 };
 
     /// What may be put.

@@ -12,7 +12,9 @@ impl<'a, T: WireItem<'a>> WireItem<'a> for (&'a str, Items<'a, T>) {
     ghost use Rattle.pc_offset_wire.specs.Items.{items_left};
 
     ghost Plain = { Topic T.Plain };
+
     ghost plain = { λ t. record { name = t.0.now; items = items_left T.at t.1 } };
+
     ghost at = { topic_at T.at };
 
     #[tactic(auto, unfolding(pc_model::specs::MessageReading::topic_at))]

@@ -1,12 +1,10 @@
-use Rattle.std.proofs.Common.{◌≡◌, ◌∙◌, ◌+◌, ◌≤◌, ℕ, List, ap, arith, length, take, drop}
+use Rattle.std.proofs.Common.{◌∙◌, ap, length, drop}
 use Rattle.std.proofs.lemmas.Result.{err_from_is_err_and}
-use Rattle.pc_model.specs.Messages.{Topic, CommitItem, commit_code_spelling, topic_spelling, IsCommitCode, IsTopic}
-use Rattle.pc_model.specs.MessageReading.{commit_item_at, topic_at}
-use Rattle.pc_offset_wire.specs.Items.{items_left}
+use Rattle.pc_model.specs.Messages.{commit_code_spelling, topic_spelling, IsCommitCode, IsTopic}
 use Rattle.pc_offset_wire.specs.Views.{commit_request_of}
-use Rattle.pc_offset_wire.specs.Replies.{item_count, answered_topics, code_of}
-use Rattle.pc_offset_wire.proofs.ReplyLemmas.{answered-no_topics, length-answered_topics, counts-topic, reply-one, reply-fails}
-use Rattle.pc_offset_wire.proofs.WritingLemmas.{Leaves-none, array-done, array-fails, array-uncounted}
+use Rattle.pc_offset_wire.specs.Replies.{answered_topics, code_of}
+use Rattle.pc_offset_wire.proofs.ReplyLemmas.{answered-no_topics, length-answered_topics}
+use Rattle.pc_offset_wire.proofs.WritingLemmas.{Leaves-none, array-done, array-uncounted}
 use Rattle.pc_offset_wire.proofs.commit_writing.put_code_topics.Goals as goal
 
 pub returns-in_err-put_count : goal.returns-in_err-put_count

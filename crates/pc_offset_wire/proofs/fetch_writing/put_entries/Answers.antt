@@ -50,12 +50,12 @@ loop-entry-preserved c =
     let others = items_left part_id_at c.next.new.self in
     elim c.match-next.branch [
       | in-Some+in_ok-put_entry w ↦
-        let fits : FitsSigned w32 w.in-Some.part = search rules in
-        let item = entry_for w.in-Some.part (get_or c.args.entries.now c.loop-entry.entry-index no_entry) in
-        let put : (c.match-next.out.items ≡ c.loop-entry.out.items ++ entry_spelling item) × IsEntry item = rw (← to_z-of_z w32 w.in-Some.part fits, w.out-is) w.in_ok-put_entry.ensures in
-        record {
-          left = answer-one entry_for entry_spelling IsEntry _ _ c.loop-entry.out.items _ others c.args.entries.now c.loop-entry.entry-index w.in-Some.part w.in-Some.ensures.steps c.loop-entry-test.true c.loop-entry.invariant.left no_entry _ put;
-          same = omega (arith, ap length w.in-Some.ensures.steps);
-        }
+          let fits : FitsSigned w32 w.in-Some.part = search rules in
+          let item = entry_for w.in-Some.part (get_or c.args.entries.now c.loop-entry.entry-index no_entry) in
+          let put : (c.match-next.out.items ≡ c.loop-entry.out.items ++ entry_spelling item) × IsEntry item = rw (← to_z-of_z w32 w.in-Some.part fits, w.out-is) w.in_ok-put_entry.ensures in
+          record {
+            left = answer-one entry_for entry_spelling IsEntry _ _ c.loop-entry.out.items _ others c.args.entries.now c.loop-entry.entry-index w.in-Some.part w.in-Some.ensures.steps c.loop-entry-test.true c.loop-entry.invariant.left no_entry _ put;
+            same = omega (arith, ap length w.in-Some.ensures.steps);
+          }
       | in_default w ↦ absurd (omega (arith, ap length w.in_default.ensures.steps.0))
     ]

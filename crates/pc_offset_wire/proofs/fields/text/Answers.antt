@@ -1,4 +1,4 @@
-use Rattle.std.proofs.Common.{◌≡◌, take, drop, subst}
+use Rattle.std.proofs.Common.{subst}
 use Rattle.std.specs.Str.{IsUtf8}
 use Rattle.pc_offset_wire.proofs.FieldLemmas.{text_at-utf8, text_at-other}
 use Rattle.pc_offset_wire.proofs.fields.text.Goals as goal

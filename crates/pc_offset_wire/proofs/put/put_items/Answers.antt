@@ -1,4 +1,4 @@
-use Rattle.std.proofs.Common.{map, drop, ◌+◌, sym, subst}
+use Rattle.std.proofs.Common.{sym, subst}
 use Rattle.std.proofs.lemmas.Result.{err_from_is_err_and}
 use Rattle.pc_offset_wire.proofs.WritingLemmas.{left-item, left-none, Leaves-all, Leaves-one, Leaves-none, Leaves-fails}
 use Rattle.pc_offset_wire.proofs.put.put_items.Goals as goal

@@ -1,4 +1,4 @@
-use Rattle.std.proofs.Common.{inl, length, ◌≤◌, ◌<◌, arith}
+use Rattle.std.proofs.Common.{inl, arith}
 use Rattle.pc_offset_wire.specs.Items.{items_left}
 use Rattle.pc_offset_wire.proofs.ItemLemmas.{length-front_items}
 use Rattle.pc_offset_wire.proofs.items.Items.len.Goals as goal
