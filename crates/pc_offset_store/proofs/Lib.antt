@@ -1,3 +1,9 @@
+pub mod AcceptedLemmas
+pub mod AnswerLemmas
+pub mod BoundLemmas
+pub mod EntryLemmas
+pub mod FoldLemmas
 pub mod ListLemmas
 pub mod LookupLemmas
 pub mod PutLemmas
+pub mod StepLemmas

@@ -4,8 +4,8 @@ ghost use Rattle.std.specs.Prelude.{◌≡◌, ◌≤◌, ◌<◌, ◌^◌, ◌�
 ghost use Rattle.pc_model.specs.declared.wire_fault.WireFault.{WireFault};
 ghost use Rattle.pc_model.specs.Broker.{broker_step, entry_of, fetch_entry, has_part, is_fetch, item_code, membership_of, membership_refusal, place_code, stored_for, with_membership, with_stored};
 ghost use Rattle.pc_model.specs.Broker.{Commits, Fetches, Unread, TooLong as LongReply};
-ghost use Rattle.pc_model.specs.Messages.{AreTopics, IsCommitItem, IsPart};
 ghost use Rattle.pc_offset_wire.specs.Views.{commit_item_of, commit_request_of, fetch_entry_of, fetch_request_of};
+ghost use Rattle.pc_offset_wire.specs.Writing.{IsCommitBody, IsFetchBody};
 ghost use Rattle.std.specs.Option.{option_copied};
 ghost use Rattle.pc_world.specs.World.{IsStorable};
 ghost use Rattle.pc_offset_store.specs.Steps.{IsAnswered, IsReply};
@@ -246,7 +246,7 @@ impl OffsetBroker {
 
     /// The reply to a fetch request.
     fn fetched(&self, request: &FetchRequest<'_>) -> Result<Vec<u8>, BrokerFault>
-        requires { AreTopics IsPart (fetch_request_of request.now).topics }
+        requires { IsFetchBody (fetch_request_of request.now) }
         ensures { IsReply result (λ v. v.items) (Fetches (fetch_request_of request.now)) self.now
             self.now }
     {
@@ -256,7 +256,7 @@ impl OffsetBroker {
 
     /// Stores what a commit request has to be stored, and gives the reply.
     fn committed(&mut self, request: &CommitRequest<'_>) -> Result<Vec<u8>, BrokerFault>
-        requires { AreTopics IsCommitItem (commit_request_of request.now).topics }
+        requires { IsCommitBody (commit_request_of request.now) }
         ensures { IsReply result (λ v. v.items) (Commits (commit_request_of request.now)) self.old
             self.new }
     {
