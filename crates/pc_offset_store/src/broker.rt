@@ -7,7 +7,7 @@ ghost use Rattle.pc_model.specs.Broker.{Commits, Fetches, Unread, TooLong as Lon
 ghost use Rattle.pc_offset_wire.specs.Views.{commit_item_of, commit_request_of, fetch_entry_of, fetch_request_of};
 ghost use Rattle.pc_offset_wire.specs.Writing.{IsCommitBody, IsFetchBody};
 ghost use Rattle.std.specs.Option.{option_copied};
-ghost use Rattle.pc_world.specs.World.{IsStorable};
+ghost use Rattle.pc_world.specs.World.{AreStorable, IsStorable};
 ghost use Rattle.pc_offset_store.specs.Steps.{IsAnswered, IsReply};
 ghost use Rattle.pc_offset_store.specs.declared.fault.BrokerFault.TheVariants.{NoMemory, TooLong, UnknownPart, Wire};
 
@@ -218,6 +218,9 @@ impl OffsetBroker {
 
         // A frame that a link may be given is never answered too long.
         ensures short { length frame.now ≤ FRAME_BYTES_MAX → result ≡ Err TooLong → ⊥ }
+
+        // Each position that it stores is below 2^63, and each text has at most 4,096 bytes.
+        ensures storable { OnOk result (AreStorable self.old) }
     {
         if is_fetch(frame) {
             self.answer_fetches(frame)
@@ -229,7 +232,8 @@ impl OffsetBroker {
     /// Answers a frame that is to be a fetch request.
     fn answer_fetches(&mut self, frame: &[u8]) -> Result<Vec<u8>, BrokerFault>
         requires { is_fetch frame.now ≡ true }
-        ensures { IsAnswered result (λ v. v.items) frame.now self.old self.new }
+        ensures answer { IsAnswered result (λ v. v.items) frame.now self.old self.new }
+        ensures storable { OnOk result (AreStorable self.old) }
     {
         let request = pc_offset_wire::read_fetch_request(frame)?;
         self.fetched(&request)
@@ -238,7 +242,8 @@ impl OffsetBroker {
     /// Answers a frame that is to be a commit request.
     fn answer_commits(&mut self, frame: &[u8]) -> Result<Vec<u8>, BrokerFault>
         requires { is_fetch frame.now ≡ false }
-        ensures { IsAnswered result (λ v. v.items) frame.now self.old self.new }
+        ensures answer { IsAnswered result (λ v. v.items) frame.now self.old self.new }
+        ensures storable { OnOk result (AreStorable self.old) }
     {
         let request = pc_offset_wire::read_commit_request(frame)?;
         self.committed(&request)
@@ -247,8 +252,9 @@ impl OffsetBroker {
     /// The reply to a fetch request.
     fn fetched(&self, request: &FetchRequest<'_>) -> Result<Vec<u8>, BrokerFault>
         requires { IsFetchBody (fetch_request_of request.now) }
-        ensures { IsReply result (λ v. v.items) (Fetches (fetch_request_of request.now)) self.now
-            self.now }
+        ensures reply { IsReply result (λ v. v.items) (Fetches (fetch_request_of request.now))
+            self.now self.now }
+        ensures storable { AreStorable self.now }
     {
         let entries = entries::of(self.alloc, self, request)?;
         Ok(write_fetch_reply(self.alloc, request, entries.as_slice())?)
@@ -257,8 +263,9 @@ impl OffsetBroker {
     /// Stores what a commit request has to be stored, and gives the reply.
     fn committed(&mut self, request: &CommitRequest<'_>) -> Result<Vec<u8>, BrokerFault>
         requires { IsCommitBody (commit_request_of request.now) }
-        ensures { IsReply result (λ v. v.items) (Commits (commit_request_of request.now)) self.old
-            self.new }
+        ensures reply { IsReply result (λ v. v.items) (Commits (commit_request_of request.now))
+            self.old self.new }
+        ensures storable { AreStorable self.old }
     {
         let Verdict { codes, accepted } = verdict::of(self.alloc, self, request)?;
         let reply = write_commit_reply(self.alloc, request, codes.as_slice())?;

@@ -5,7 +5,7 @@ use Rattle.std.specs.List.{AllByRecursion}
 use Rattle.std.specs.String.{string_bytes}
 use Rattle.std.proofs.lemmas.Result.{err_from_is_err_and}
 use Rattle.pc_model.specs.Broker.{Broker, Commits, Stored, item_code}
-use Rattle.pc_world.specs.World.{IsStorable}
+use Rattle.pc_world.specs.World.{AreStorable, IsStorable}
 use Rattle.pc_offset_wire.specs.Views.{commit_request_of}
 use Rattle.pc_offset_store.specs.Store.{membership_of, put_each, stored_of}
 use Rattle.pc_offset_store.specs.declared.commits.GroupCommit.{GroupCommit}
@@ -25,8 +25,8 @@ write_commit_reply-requires c =
     let r = commit_request_of c.args.request.now in
     ap length (c.as_slice.ensures.value ∙ c.in_ok-codes.ensures.codes) ∙ length-answers (item_code c.args.self.now r) r.topics
 
-pub returns-in_err-reply : goal.returns-in_err-reply
-returns-in_err-reply c =
+pub returns-in_err-reply-clause-reply : goal.returns-in_err-reply-clause-reply
+returns-in_err-reply-clause-reply c =
     let p = err_from_is_err_and c.from_residual-in_err-reply.result c.from_residual-in_err-reply.ensures.1 in
     let r = commit_request_of c.args.request.now in
     let b = c.args.self.now in
@@ -45,8 +45,8 @@ invariant_of-self-2 c =
         subst (AllByRecursion Holds) (sym c.in_ok-codes.ensures.accepted) (accepted-hold b r r.topics c.requires.topics.each) in
     subst (AllByRecursion Holds) (sym put) (all-put_each Holds (map stored_of c.in_ok-codes.field-0.accepted.items) before may c.self.invariant)
 
-pub returns : goal.returns
-returns c =
+pub returns-clause-reply : goal.returns-clause-reply
+returns-clause-reply c =
     let b = c.args.self.now in
     let r = commit_request_of c.args.request.now in
     let inside = c.self.inside in
@@ -65,3 +65,9 @@ returns c =
     commits-done b after r c.as_slice.result.now accepted c.in_ok-reply.reply.items
     (c.as_slice.ensures.value ∙ c.in_ok-codes.ensures.codes) c.in_ok-codes.ensures.accepted stored
     c.in_ok-reply.ensures.frame
+
+pub returns-in_err-reply-clause-storable : goal.returns-in_err-reply-clause-storable
+returns-in_err-reply-clause-storable c = subst AreStorable c.self.view_is c.self.invariant
+
+pub returns-clause-storable : goal.returns-clause-storable
+returns-clause-storable c = subst AreStorable c.self.view_is c.self.invariant
