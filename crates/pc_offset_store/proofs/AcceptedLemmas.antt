@@ -1,7 +1,6 @@
 -- What is accepted may be stored.
 use Rattle.std.proofs.Common.{◌≡◌, ℕ, ◌≤◌, ◌<◌, ◌^◌, ℤ, pos, negsuc, Bool, true, false, cond, ltb, List, [], ◌∷◌, ◌++◌, length, Option, Some, None, refl, sym, subst, true≢false, arith}
-use Rattle.std.specs.Prelude.{FitsSigned, bytes_eq, not, unwrap_or, unsigned_abs, ◌+ℤ◌}
-use Rattle.std.specs.Int.{w64}
+use Rattle.std.specs.Prelude.{bytes_eq, not, unwrap_or, unsigned_abs}
 use Rattle.std.specs.Ordering.{int_eq}
 use Rattle.std.specs.Str.{is_utf8}
 use Rattle.std.specs.List.{AllByRecursion, flat_map, list_any}

@@ -1,9 +1,9 @@
 -- What is answered of each item of a request, as a list and as topics.
-use Rattle.std.proofs.Common.{◌≡◌, ℕ, zero, suc, ◌+◌, List, [], ◌∷◌, ◌++◌, length, map, take, drop, refl, sym, ap, ◌∙◌, arith}
-use Rattle.std.specs.List.{flat_map, zip, AllByRecursion}
+use Rattle.std.proofs.Common.{◌≡◌, ℕ, zero, suc, List, [], ◌∷◌, length, map, take, drop, refl, sym, ap, ◌∙◌, arith}
+use Rattle.std.specs.List.{flat_map, AllByRecursion}
 use Rattle.std.proofs.lemmas.List.{take_at, drop_at, length-append, length-map}
 use Rattle.pc_model.specs.Broker.{answered}
-use Rattle.pc_model.specs.Messages.{Topic, IsTopic, IsArray, AreTopics}
+use Rattle.pc_model.specs.Messages.{Topic, IsTopic, AreTopics}
 use Rattle.pc_offset_wire.specs.Replies.{answered_items, answered_topics, item_count}
 
 module _ {A B : Type 0} (answer : List ℕ → A → B) where
@@ -14,8 +14,12 @@ module _ {A B : Type 0} (answer : List ℕ → A → B) where
   -- as many as there are items
   pub length-answers : (topics : List (Topic A)) → length (flat_map of_topic topics) ≡ item_count topics
   length-answers [] = refl
-  length-answers (topic ∷ topics) = omega (arith, length-append (of_topic topic) (flat_map of_topic topics),
-      length-map topic.items (answer topic.name), length-answers topics)
+  length-answers (topic ∷ topics) = omega (
+    arith,
+    length-append (of_topic topic) (flat_map of_topic topics),
+    length-map topic.items (answer topic.name),
+    length-answers topics,
+  )
 
   module _ {C : Type 0} (made : A → B → C) where
     items_made : (name : List ℕ) (xs : List A)
@@ -70,8 +74,10 @@ module _ {A B V C : Type 0} (view : V → B) (made : A → B → C) where
       ∙ sym (ap (answered_topics made topics) (drop-map n ys)) in
       ap (λ (zs : List C). record { name = topic.name; items = zs }
       ∷ answered_topics (λ x y. made x (view y)) topics (drop n ys)) items
-      ∙ ap (λ (zs : List (Topic C)). record { name = topic.name;
-      items = answered_items made topic.items (take n (map view ys)) } ∷ zs) others
+      ∙ ap (λ (zs : List (Topic C)). record {
+        name = topic.name;
+        items = answered_items made topic.items (take n (map view ys));
+      } ∷ zs) others
 
 -- ---- what all answers are
 

@@ -1,16 +1,15 @@
 -- What a reply's items are: they have a spelling, and a short one.
-use Rattle.std.proofs.Common.{◌≡◌, ℕ, ◌+◌, ◌≤◌, ◌<◌, ◌^◌, ℤ, pos, negsuc, Bool, true, false, cond, List, [], ◌∷◌, ◌++◌, length, Option, Some, None, refl, arith}
+use Rattle.std.proofs.Common.{◌≡◌, ℕ, ◌≤◌, ℤ, pos, negsuc, Bool, true, false, cond, List, [], length, Option, Some, None, refl, arith}
 use Rattle.std.specs.Prelude.{FitsSigned, ◌≤ℤ◌, nat_lt, not, unwrap_or, unsigned_abs, bytes_eq}
-use Rattle.std.specs.Int.{w16, w32, w64}
+use Rattle.std.specs.Int.{w16}
 use Rattle.std.specs.Ordering.{int_eq}
 use Rattle.std.specs.List.{list_any}
 use Rattle.std.proofs.lemmas.Int.{ints}
 use Rattle.std.proofs.lemmas.Str.{IsUtf8-nil, is_utf8-from_IsUtf8}
-use Rattle.std.proofs.lemmas.List.{length-append}
 use Rattle.pc_model.specs.declared.api.TheConstants.{NO_ERROR, UNKNOWN_TOPIC_OR_PARTITION, OFFSET_METADATA_TOO_LARGE, ILLEGAL_GENERATION, UNKNOWN_MEMBER_ID, METADATA_MAX}
 use Rattle.pc_model.specs.declared.commit.Commit.{Commit}
 use Rattle.pc_model.specs.Broker.{Broker, Membership, entry_of, fetch_entry, has_part, item_code, membership_of, membership_refusal, metadata_text, place_code, stored_for, unknown_entry}
-use Rattle.pc_model.specs.Messages.{CommitCode, CommitItem, CommitRequest, FetchEntry, IsCommitCode, IsCommitItem, IsEntry, IsNullable, IsPart, IsPosition, nullable_spelling}
+use Rattle.pc_model.specs.Messages.{CommitItem, CommitRequest, FetchEntry, IsCommitCode, IsCommitItem, IsEntry, IsNullable, IsPart, IsPosition, nullable_spelling}
 use Rattle.pc_offset_wire.proofs.WritingLemmas.{is_position}
 use Rattle.pc_world.specs.World.{AreStorable, IsStorable}
 use Rattle.pc_offset_store.proofs.LookupLemmas.{storable}

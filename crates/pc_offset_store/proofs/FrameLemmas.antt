@@ -1,9 +1,9 @@
 -- A frame is answered as the request that it is.
-use Rattle.std.proofs.Common.{◌≡◌, ◌∙◌, ℕ, ◌≤◌, ◌<◌, ◌^◌, List, length, Result, Ok, Err, Bool, true, false, ltb, refl, sym, ap, subst, inl, inr, arith}
+use Rattle.std.proofs.Common.{◌≡◌, ◌∙◌, ℕ, ◌≤◌, ◌<◌, ◌^◌, List, length, Result, Ok, Err, true, false, ltb, refl, ap, subst, inl, inr, arith}
 use Rattle.std.specs.Prelude.{IfOk, OnErr, OnOk}
 use Rattle.std.proofs.lemmas.Bool.{cases_Bool, lt-ltb, ltb-true, ltb-false}
 use Rattle.pc_model.specs.declared.wire_fault.WireFault.{WireFault}
-use Rattle.pc_model.specs.Broker.{Broker, Request, Commits, Fetches, Refusal, Unread, TooLong as LongReply, after_request, broker_step, commits_read, fetches_read, is_fetch, reply_body, request_reading, step_of}
+use Rattle.pc_model.specs.Broker.{Broker, Request, Refusal, Unread, TooLong as LongReply, after_request, broker_step, commits_read, fetches_read, is_fetch, reply_body, request_reading, step_of}
 use Rattle.pc_model.specs.Messages.{CommitRequest, FetchRequest, frame_spelling}
 use Rattle.pc_model.specs.MessageReading.{commit_request_reading, fetch_request_reading}
 use Rattle.pc_world.specs.declared.link.TheConstants.{FRAME_BYTES_MAX}

@@ -57,11 +57,11 @@ module _ {A S : Type 0} (view : A → S) (same : S → S → Bool) (put : S → 
   in_place (y ∷ ys) lt = elim (cases_Bool (is_place y)) [
     | inl here ↦ rw (put-one (view x) (view y) (map view ys), here) refl
     | inr other ↦
-      let lt' = rw other at lt in
-      let n = position_or_len is_place ys in
-      let one : 1 + n ≡ suc n = omega arith in
-      rw (put-one (view x) (view y) (map view ys), other, one)
-      (ap (λ (ts : List S). view y ∷ ts) (in_place ys (omega (arith, lt'))))
+        let lt' = rw other at lt in
+        let n = position_or_len is_place ys in
+        let one : 1 + n ≡ suc n = omega arith in
+        rw (put-one (view x) (view y) (map view ys), other, one)
+        (ap (λ (ts : List S). view y ∷ ts) (in_place ys (omega (arith, lt'))))
   ]
 
   at_end : (xs : List A) → (position_or_len is_place xs < length xs → ⊥)
@@ -70,8 +70,8 @@ module _ {A S : Type 0} (view : A → S) (same : S → S → Bool) (put : S → 
   at_end (y ∷ ys) none = elim (cases_Bool (is_place y)) [
     | inl here ↦ absurd (none (rw here (omega arith)))
     | inr other ↦
-      rw (put-one (view x) (view y) (map view ys), other)
-      (ap (λ (ts : List S). view y ∷ ts) (at_end ys (λ lt. none (rw other (omega arith)))))
+        rw (put-one (view x) (view y) (map view ys), other)
+        (ap (λ (ts : List S). view y ∷ ts) (at_end ys (λ lt. none (rw other (omega arith)))))
   ]
 
   pub put-found : (xs : List A) (i : ℕ) → position is_place xs ≡ Some i

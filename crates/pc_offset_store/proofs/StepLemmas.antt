@@ -1,18 +1,17 @@
 -- The step of a request that was answered, and of one whose reply is too long.
-use Rattle.std.proofs.Common.{◌≡◌, ℕ, ◌+◌, ◌≤◌, ◌<◌, ◌^◌, ℤ, List, [], ◌∷◌, ◌++◌, length, map, Ok, Err, Result, Bool, true, false, ltb, refl, sym, ap, subst, inl, inr, ◌∙◌, arith}
+use Rattle.std.proofs.Common.{◌≡◌, ℕ, ◌<◌, ◌^◌, ℤ, List, length, map, Ok, Err, ltb, refl, sym, ap, subst, inl, inr, ◌∙◌}
 use Rattle.std.specs.Prelude.{FitsSigned}
 use Rattle.std.specs.Int.{w32}
 use Rattle.std.specs.List.{flat_map}
 use Rattle.std.proofs.lemmas.Bool.{cases_Bool, lt-ltb, ltb-true}
 use Rattle.pc_model.specs.Broker.{Broker, Request, Stored, Commits, Fetches, TooLong as LongReply, after_request, commit_reply_of, fetch_entry, fetch_reply_of, item_code, reply_body, step_of}
-use Rattle.pc_model.specs.Messages.{AreTopics, CommitCode, CommitReply, CommitRequest, FetchReply, FetchRequest, FetchEntry, IsCommitCode, IsCommitItem, IsCommitReply, IsEntry, IsFetchReply, IsFrame, IsPart, Topic, commit_reply_body, fetch_reply_body, frame_spelling}
+use Rattle.pc_model.specs.Messages.{AreTopics, CommitCode, CommitRequest, FetchRequest, FetchEntry, IsCommitCode, IsCommitItem, IsCommitReply, IsEntry, IsFetchReply, IsFrame, IsPart, Topic, commit_reply_body, fetch_reply_body, frame_spelling}
 use Rattle.pc_offset_wire.specs.declared.fetch.FetchEntry as wire
 use Rattle.pc_offset_wire.specs.declared.write_fault.WireWriteFault.{WireWriteFault}
 use Rattle.pc_offset_wire.specs.declared.write_fault.WireWriteFault.TheVariants.{TooLong as LongFrame, NoMemory as NoFrame}
-use Rattle.pc_offset_wire.specs.Replies.{answered_topics, code_of, commit_reply_to, entry_for, fetch_reply_to}
+use Rattle.pc_offset_wire.specs.Replies.{answered_topics, code_of, commit_reply_to, fetch_reply_to}
 use Rattle.pc_offset_wire.specs.Views.{fetch_entry_of}
 use Rattle.pc_world.specs.World.{AreStorable}
-use Rattle.pc_offset_store.specs.declared.fault.BrokerFault.{BrokerFault}
 use Rattle.pc_offset_store.specs.Store.{accepted_of, codes_of, entries_of, fault_of, put_each}
 use Rattle.pc_offset_store.specs.Steps.{IsReply}
 use Rattle.pc_offset_store.proofs.AnswerLemmas.{are-answered, topics_made, topics_seen}

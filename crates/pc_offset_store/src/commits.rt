@@ -26,8 +26,11 @@ impl GroupCommit {
         position: u64,
         map: &str,
     ) -> Result<GroupCommit, AllocError>
-        ensures { IfOk result (λ c. stored_of c ≡ record { group = group.now; part = part;
-            commit = record { position = position; map = map.now } }) }
+        ensures { IfOk result (λ c. stored_of c ≡ record {
+          group = group.now;
+          part = part;
+          commit = record { position = position; map = map.now };
+        }) }
     {
         Ok(GroupCommit {
             group: String::from_str(alloc, group)?,

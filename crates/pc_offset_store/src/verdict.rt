@@ -90,11 +90,7 @@ fn put_item(
 }
 
 /// What is stored for an item of a group.
-fn commit_of(
-    alloc: Global,
-    group: &str,
-    item: &CommitItem<'_>,
-) -> Result<GroupCommit, AllocError>
+fn commit_of(alloc: Global, group: &str, item: &CommitItem<'_>) -> Result<GroupCommit, AllocError>
     ensures { let plain = commit_item_of item.now in IfOk result (λ c. stored_of c ≡ record
         { group = group.now; part = unsigned_abs plain.part; commit = commit_in plain }) }
 {

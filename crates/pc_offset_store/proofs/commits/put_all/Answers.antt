@@ -1,5 +1,5 @@
 -- One more commit is put in the place that was left for it.
-use Rattle.std.proofs.Common.{◌≡◌, ◌∙◌, ◌+◌, ◌≤◌, List, sym, ap, length, map, arith}
+use Rattle.std.proofs.Common.{◌∙◌, List, sym, ap, length, map, arith}
 use Rattle.std.proofs.lemmas.List.{nil_from_length}
 use Rattle.std.specs.Vec.Iter.{into_iter_items}
 use Rattle.pc_model.specs.Broker.{Stored}

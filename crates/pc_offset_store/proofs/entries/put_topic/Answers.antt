@@ -17,9 +17,9 @@ loop-part-preserved c =
     let now = map fetch_entry_of c.loop-part.entries.items in
     let fits : FitsSigned w32 c.in-Some.part = search rules in
     let put : map fetch_entry_of c.push.new.self.items ≡ now ++ entry c.in-Some.part ∷ [] =
-        ap (map fetch_entry_of) c.in_ok-push.ensures.items
-        ∙ map-append fetch_entry_of c.loop-part.entries.items (c.entry_of.result ∷ [])
-        ∙ ap (λ (e : FetchEntry). now ++ e ∷ []) (c.entry_of.ensures ∙ ap entry (to_z-of_z w32 c.in-Some.part fits)) in
+    ap (map fetch_entry_of) c.in_ok-push.ensures.items
+    ∙ map-append fetch_entry_of c.loop-part.entries.items (c.entry_of.result ∷ [])
+    ∙ ap (λ (e : FetchEntry). now ++ e ∷ []) (c.entry_of.ensures ∙ ap entry (to_z-of_z w32 c.in-Some.part fits)) in
     pieces-one (λ part. entry part ∷ []) _ _ _ _ _ c.in-Some.part c.in-Some.ensures.steps put c.loop-part.invariant
 
 pub returns : goal.returns

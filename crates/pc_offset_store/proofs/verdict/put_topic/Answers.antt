@@ -1,5 +1,5 @@
 -- What is decided of one more item stands behind the others.
-use Rattle.std.proofs.Common.{◌≡◌, ◌∙◌, ◌++◌, [], ◌∷◌, List, ap, ℤ}
+use Rattle.std.proofs.Common.{◌∙◌, ◌++◌, [], ◌∷◌, List, ap, ℤ}
 use Rattle.pc_model.specs.Broker.{item_code}
 use Rattle.pc_model.specs.Messages.{CommitItem}
 use Rattle.pc_model.specs.MessageReading.{commit_item_at}

@@ -1,8 +1,7 @@
 -- The frame is a fetch request, whose reply is short where the frame is.
-use Rattle.std.proofs.Common.{Ok, Err, subst}
+use Rattle.std.proofs.Common.{Ok, Err}
 use Rattle.std.proofs.lemmas.Result.{err_from_is_err_and}
 use Rattle.pc_model.specs.Broker.{Fetches}
-use Rattle.pc_world.specs.World.{AreStorable}
 use Rattle.pc_offset_wire.specs.Views.{fetch_request_of}
 use Rattle.pc_offset_store.proofs.BoundLemmas.{fetch-short}
 use Rattle.pc_offset_store.proofs.FrameLemmas.{answered-reply, answered-unread, on_ok, fetches-reading}

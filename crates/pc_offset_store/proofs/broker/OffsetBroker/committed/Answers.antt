@@ -11,7 +11,6 @@ use Rattle.pc_offset_store.specs.Store.{membership_of, put_each, stored_of}
 use Rattle.pc_offset_store.specs.declared.commits.GroupCommit.{GroupCommit}
 use Rattle.pc_offset_store.proofs.AcceptedLemmas.{accepted-hold}
 use Rattle.pc_offset_store.proofs.AnswerLemmas.{length-answers}
-use Rattle.pc_offset_store.proofs.BoundLemmas
 use Rattle.pc_offset_store.proofs.FoldLemmas.{storing}
 use Rattle.pc_offset_store.proofs.PutLemmas.{all-put_each}
 use Rattle.pc_offset_store.proofs.StepLemmas.{commits-done, commits-long, refused}
@@ -40,9 +39,9 @@ invariant_of-self-2 c =
     let r = commit_request_of c.args.request.now in
     let before = map stored_of c.self.inside.commits.items in
     let put = c.put_all.ensures
-        ∙ ap (λ (items : List GroupCommit). put_each (map stored_of c.in_ok-codes.field-0.accepted.items) (map stored_of items)) c.reserve.ensures.items in
+    ∙ ap (λ (items : List GroupCommit). put_each (map stored_of c.in_ok-codes.field-0.accepted.items) (map stored_of items)) c.reserve.ensures.items in
     let may : AllByRecursion Holds (map stored_of c.in_ok-codes.field-0.accepted.items) =
-        subst (AllByRecursion Holds) (sym c.in_ok-codes.ensures.accepted) (accepted-hold b r r.topics c.requires.topics.each) in
+    subst (AllByRecursion Holds) (sym c.in_ok-codes.ensures.accepted) (accepted-hold b r r.topics c.requires.topics.each) in
     subst (AllByRecursion Holds) (sym put) (all-put_each Holds (map stored_of c.in_ok-codes.field-0.accepted.items) before may c.self.invariant)
 
 pub returns-clause-reply : goal.returns-clause-reply
@@ -52,7 +51,7 @@ returns-clause-reply c =
     let inside = c.self.inside in
     let accepted = map stored_of c.in_ok-codes.field-0.accepted.items in
     let put = c.put_all.ensures
-        ∙ ap (λ (items : List GroupCommit). put_each accepted (map stored_of items)) c.reserve.ensures.items in
+    ∙ ap (λ (items : List GroupCommit). put_each accepted (map stored_of items)) c.reserve.ensures.items in
     let with_commits : List Stored → Broker = λ (commits : List Stored). record {
       topic = string_bytes inside.topic;
       parts = inside.parts;
@@ -61,7 +60,7 @@ returns-clause-reply c =
     } in
     let after = with_commits (map stored_of c.put_all.new.commits.items) in
     let stored : after ≡ storing b (put_each accepted b.commits) =
-        ap with_commits put ∙ ap (λ (x : Broker). storing x (put_each accepted x.commits)) c.self.view_is in
+    ap with_commits put ∙ ap (λ (x : Broker). storing x (put_each accepted x.commits)) c.self.view_is in
     commits-done b after r c.as_slice.result.now accepted c.in_ok-reply.reply.items
     (c.as_slice.ensures.value ∙ c.in_ok-codes.ensures.codes) c.in_ok-codes.ensures.accepted stored
     c.in_ok-reply.ensures.frame

@@ -1,5 +1,5 @@
 -- The reply has an entry for each part.
-use Rattle.std.proofs.Common.{◌≡◌, ◌∙◌, List, Err, length, map, ap, sym, subst}
+use Rattle.std.proofs.Common.{◌∙◌, List, Err, length, map, ap, sym, subst}
 use Rattle.std.proofs.lemmas.List.{length-map}
 use Rattle.std.proofs.lemmas.Result.{err_from_is_err_and}
 use Rattle.pc_model.specs.Broker.{Fetches, fetch_entry}

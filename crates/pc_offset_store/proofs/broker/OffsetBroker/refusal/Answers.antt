@@ -1,5 +1,5 @@
 -- The membership is that of the group that was found.
-use Rattle.std.proofs.Common.{◌≡◌, ◌∙◌, Some, None, Option, ℤ, w32, ap, sym, rules}
+use Rattle.std.proofs.Common.{◌∙◌, Some, None, Option, ℤ, w32, ap, sym, rules}
 use Rattle.std.specs.Prelude.{FitsSigned}
 use Rattle.std.proofs.lemmas.Int.{to_z-of_z}
 use Rattle.std.specs.Option.{option_copied}

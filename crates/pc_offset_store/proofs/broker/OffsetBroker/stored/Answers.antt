@@ -1,5 +1,5 @@
 -- The commit is that of the entry that was found.
-use Rattle.std.proofs.Common.{◌≡◌, ◌∙◌, Some, None, ap, sym, subst}
+use Rattle.std.proofs.Common.{◌∙◌, Some, None, ap, sym, subst}
 use Rattle.std.specs.Option.{option_copied}
 use Rattle.pc_model.specs.Broker.{Broker}
 use Rattle.pc_world.specs.World.{AreStorable}
