@@ -1,1 +1,11 @@
-
+pub mod AcceptedLemmas
+pub mod AnswerLemmas
+pub mod BoundLemmas
+pub mod EntryLemmas
+pub mod FoldLemmas
+pub mod FrameLemmas
+pub mod ListLemmas
+pub mod LookupLemmas
+pub mod PositionLemmas
+pub mod PutLemmas
+pub mod StepLemmas

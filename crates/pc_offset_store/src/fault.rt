@@ -1,9 +1,11 @@
 //! Why a broker did not do what it was asked.
 
 ghost use Rattle.std.specs.Prelude.{◌≡◌};
+ghost use Rattle.pc_offset_store.specs.Store.{fault_of};
 ghost use Rattle.pc_offset_store.specs.declared.fault.BrokerFault.TheVariants.{NoMemory, Wire};
 
 use pc_model::WireFault;
+use pc_offset_wire::WireWriteFault;
 use std::alloc::{AllocError, AllocFailed};
 use thiserror::Error;
 
@@ -45,5 +47,16 @@ impl From<WireFault> for BrokerFault {
 
     fn from(fault: WireFault) -> BrokerFault {
         BrokerFault::Wire(fault)
+    }
+}
+
+impl From<WireWriteFault> for BrokerFault {
+    ghost from_gives = { λ fault e. e ≡ fault_of fault };
+
+    fn from(fault: WireWriteFault) -> BrokerFault {
+        match fault {
+            WireWriteFault::TooLong => BrokerFault::TooLong,
+            WireWriteFault::NoMemory => BrokerFault::NoMemory,
+        }
     }
 }

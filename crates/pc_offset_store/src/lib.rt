@@ -4,8 +4,10 @@
 
 mod broker;
 mod commits;
+mod entries;
 mod fault;
 mod members;
+mod verdict;
 
 pub use broker::OffsetBroker;
 pub use fault::BrokerFault;

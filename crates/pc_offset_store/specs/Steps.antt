@@ -1,0 +1,27 @@
+-- How a broker answers a request, and a frame: by the step, and a fault changes nothing.
+use Rattle.std.specs.Prelude.{◌≡◌, ◌<◌, ℕ, List, Result, Ok, Err, length}
+use Rattle.pc_model.specs.Broker.{Broker, Request, Unread, TooLong as LongReply, broker_step, step_of}
+use Rattle.pc_world.specs.declared.link.TheConstants.{FRAME_BYTES_MAX}
+use Rattle.pc_offset_store.specs.declared.fault.BrokerFault.{BrokerFault}
+use Rattle.pc_offset_store.specs.declared.fault.BrokerFault.TheVariants.{NoMemory, TooLong, UnknownPart, Wire}
+
+-- what a request was answered, whose reply is seen by view
+abbrev pub IsReply : {V : Type 0} → Result V BrokerFault → (V → List ℕ) → Request → Broker → Broker
+    → Type 0
+IsReply (Ok reply) view request old new = step_of old (Ok request) ≡ Ok (view reply, new)
+IsReply (Err TooLong) view request old new =
+    (step_of old (Ok request) ≡ Err LongReply) × (new ≡ old)
+IsReply (Err NoMemory) view request old new = new ≡ old
+IsReply (Err UnknownPart) view request old new = ⊥
+IsReply (Err (Wire fault)) view request old new = ⊥
+
+-- what a frame was answered; only a reply to a frame that no link is given is too long
+abbrev pub IsAnswered : {V : Type 0} → Result V BrokerFault → (V → List ℕ) → List ℕ → Broker → Broker
+    → Type 0
+IsAnswered (Ok reply) view frame old new = broker_step old frame ≡ Ok (view reply, new)
+IsAnswered (Err (Wire fault)) view frame old new =
+    (broker_step old frame ≡ Err (Unread fault)) × (new ≡ old)
+IsAnswered (Err TooLong) view frame old new =
+    (broker_step old frame ≡ Err LongReply) × (FRAME_BYTES_MAX < length frame) × (new ≡ old)
+IsAnswered (Err NoMemory) view frame old new = new ≡ old
+IsAnswered (Err UnknownPart) view frame old new = ⊥
