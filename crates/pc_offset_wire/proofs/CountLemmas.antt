@@ -1,5 +1,5 @@
 -- How many items a request that was read has.
-use Rattle.std.proofs.Common.{◌≡◌, ℕ, Result, Ok, Err, refl, sym, ap, ◌∙◌}
+use Rattle.std.proofs.Common.{ℕ, Result, Ok, Err}
 use Rattle.pc_model.specs.declared.wire_fault.WireFault.{WireFault}
 use Rattle.pc_model.specs.Messages.{CommitRequest, FetchRequest}
 use Rattle.pc_offset_wire.specs.Replies.{item_count}

@@ -20,8 +20,10 @@ answered_items made items answers = map (λ x. made x.0 x.1) (zip items answers)
 abbrev pub answered_topics : {A B C : Type 0} → (A → B → C) → List (Topic A) → List B
     → List (Topic C)
 answered_topics made [] answers = []
-answered_topics made (topic ∷ topics) answers = record
-    { name = topic.name; items = answered_items made topic.items (take (length topic.items) answers) }
+answered_topics made (topic ∷ topics) answers = record {
+  name = topic.name;
+  items = answered_items made topic.items (take (length topic.items) answers);
+}
     ∷ answered_topics made topics (drop (length topic.items) answers)
 
 abbrev pub code_of : messages.CommitItem → ℤ → messages.CommitCode

@@ -45,7 +45,7 @@ const FETCH_REPLY: [u8; 35] = [
     0x00, 0x00, 0x00, 0x00,
 ];
 
-// A commit of several topics, one of which stands for no part. The client id and a metadata are null.
+// A commit of several topics, one of them with no part. The client id and a metadata are null.
 const LONG_REQUEST: [u8; 100] = [
     // size, api key, api version, correlation id, client id
     0x00, 0x00, 0x00, 0x60, 0x00, 0x08, 0x00, 0x02, 0xFF, 0xFF, 0xFF, 0xFB, 0xFF, 0xFF, //
