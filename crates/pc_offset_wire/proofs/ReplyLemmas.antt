@@ -6,7 +6,7 @@ use Rattle.std.proofs.lemmas.Slice.Zip.{length-zip}
 use Rattle.pc_model.specs.Messages.{Topic, IsString, IsArray, IsTopic, string_spelling, array_spelling, topic_spelling}
 use Rattle.pc_offset_wire.specs.declared.write_fault.WireWriteFault.{WireWriteFault}
 use Rattle.pc_offset_wire.specs.Writing.{Puts}
-use Rattle.pc_offset_wire.specs.Replies.{item_count, answered_items, answered_topics}
+use Rattle.pc_offset_wire.specs.Replies.{item_count, answered_items, answered_topic, answered_topics}
 use Rattle.pc_offset_wire.proofs.WritingLemmas.{Leaves, Leaves-one, Leaves-fails, topic-put, topic-fails}
 
 module _ {A B C : Type 0} (made : A → B → C) where
@@ -31,15 +31,12 @@ module _ {A B C : Type 0} (made : A → B → C) where
   length-answered_topics [] ys = refl
   length-answered_topics (topic ∷ topics) ys = omega (arith, length-answered_topics topics (drop (length topic.items) ys))
 
-  abbrev pub answered_topic : Topic A → List B → Topic C
-  answered_topic topic ys = record { name = topic.name; items = answered_items made topic.items ys }
-
   -- a topic and the answers to its items
-  pub answered-topic : (topics others : List (Topic A)) (topic : Topic A) (ys first rest : List B) (n : ℕ) → topics ≡ topic ∷ others → n ≡ length topic.items → first ≡ take n ys → rest ≡ drop n ys → answered_topics made topics ys ≡ answered_topic topic first ∷ answered_topics made others rest
+  pub answered-topic : (topics others : List (Topic A)) (topic : Topic A) (ys first rest : List B) (n : ℕ) → topics ≡ topic ∷ others → n ≡ length topic.items → first ≡ take n ys → rest ≡ drop n ys → answered_topics made topics ys ≡ answered_topic made topic first ∷ answered_topics made others rest
   answered-topic topics others topic ys first rest n e is front back =
       ap (λ (l : List (Topic A)). answered_topics made l ys) e
-      ∙ ap (λ (l : List B). answered_topic topic l ∷ answered_topics made others (drop (length topic.items) ys)) (ap (λ (k : ℕ). take k ys) (sym is) ∙ sym front)
-      ∙ ap (λ (l : List B). answered_topic topic first ∷ answered_topics made others l) (ap (λ (k : ℕ). drop k ys) (sym is) ∙ sym back)
+      ∙ ap (λ (l : List B). answered_topic made topic l ∷ answered_topics made others (drop (length topic.items) ys)) (ap (λ (k : ℕ). take k ys) (sym is) ∙ sym front)
+      ∙ ap (λ (l : List B). answered_topic made topic first ∷ answered_topics made others l) (ap (λ (k : ℕ). drop k ys) (sym is) ∙ sym back)
 
   -- the answers that are left are as many as the items that are left
   pub counts-topic : (topics others : List (Topic A)) (topic : Topic A) (count done n : ℕ) → topics ≡ topic ∷ others → n ≡ length topic.items → count ≡ done + item_count topics → count ≡ done + n + item_count others
