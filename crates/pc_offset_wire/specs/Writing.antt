@@ -10,8 +10,8 @@ use Rattle.pc_offset_wire.specs.declared.commit_writing.CommitTopic.{CommitTopic
 use Rattle.pc_offset_wire.specs.declared.fetch_writing.FetchTopic.{FetchTopic}
 use Rattle.pc_offset_wire.specs.Views.{plain_commit_item}
 
--- The text was put behind what stood there, and the fact holds; or the fact does not hold; or memory
--- ran out.
+-- The text was put behind what stood there, and the fact holds; or the fact does not hold; or
+-- memory ran out.
 abbrev pub Puts : List ℕ → Type 0 → List ℕ → List ℕ → Result (Unit {0}) WireWriteFault → Type 0
 Puts text Fits old new (Ok done) = (new ≡ old ++ text) × Fits
 Puts text Fits old new (Err TooLong) = Fits → ⊥
@@ -26,7 +26,8 @@ abbrev pub AreStorable : CommitTopic → Type 0
 AreStorable topic = All IsStorable topic.items.now
 
 abbrev pub plain_commit_topic : CommitTopic → messages.Topic messages.CommitItem
-plain_commit_topic topic = record { name = topic.name.now; items = map plain_commit_item topic.items.now }
+plain_commit_topic topic = record
+    { name = topic.name.now; items = map plain_commit_item topic.items.now }
 
 abbrev pub plain_fetch_topic : FetchTopic → messages.Topic ℤ
 plain_fetch_topic topic = record { name = topic.name.now; items = topic.parts.now }

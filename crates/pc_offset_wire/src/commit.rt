@@ -123,7 +123,8 @@ impl<'a> CommitRequest<'a> {
 impl<'a> CommitReply<'a> {
     /// The topics, in their order.
     pub fn topics(&self) -> CodeTopics<'a>
-        ensures { items_left (topic_at commit_code_at) result ≡ (plain_commit_reply self.now).topics }
+        ensures { items_left (topic_at commit_code_at) result
+            ≡ (plain_commit_reply self.now).topics }
     {
         self.topics.again()
     }
@@ -132,7 +133,8 @@ impl<'a> CommitReply<'a> {
 /// The request at the front of the bytes.
 #[tactic(auto, unfolding(pc_model::specs::MessageReading::commit_request_at))]
 fn commit_request(bytes: &[u8]) -> Result<(CommitRequest<'_>, &[u8]), WireFault>
-    ensures { Gives (λ x. (plain_commit_request x.0, x.1.now)) result (commit_request_at bytes.now) }
+    ensures { Gives (λ x. (plain_commit_request x.0, x.1.now)) result
+        (commit_request_at bytes.now) }
 {
     let (correlation, client, rest) = frame::header(OFFSET_COMMIT, OFFSET_COMMIT_VERSION, bytes)?;
     let (group, rest) = fields::string(rest)?;

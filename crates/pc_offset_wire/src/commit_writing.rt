@@ -143,7 +143,8 @@ fn put_code_topics(
     codes: &[i16],
 ) -> Result<(), WireWriteFault>
     requires { length codes.now ≡ item_count (plain_commit_request request.now).topics }
-    ensures { let made = answered_topics code_of (plain_commit_request request.now).topics codes.now in
+    ensures { let made = answered_topics code_of (plain_commit_request request.now).topics
+        codes.now in
         Puts (topics_spelling commit_code_spelling made) (AreTopics IsCommitCode made)
         out.old.items out.new.items result }
 {

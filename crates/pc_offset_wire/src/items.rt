@@ -10,7 +10,7 @@ use crate::fields;
 use pc_model::WireFault;
 use std::marker::PhantomData;
 
-/// An item of an array.
+/// What stands in an array, and how it is read.
 pub trait WireItem<'a>: Copy {
     /// The item without where it lies in memory.
     ghost Plain: { Type 0 };
@@ -25,7 +25,8 @@ pub trait WireItem<'a>: Copy {
         ensures { Gives (λ x. (plain x.0, x.1.now)) result (at bytes.now) };
 }
 
-/// The items of an array that are left.
+/// The items of an array that are left, read in place: an iterator over them. All of them were
+/// checked when the frame was read.
 #[derive(Clone, Copy, Debug)]
 pub struct Items<'a, T> {
     bytes: &'a [u8],

@@ -45,7 +45,7 @@ const FETCH_REPLY: [u8; 35] = [
     0x00, 0x00, 0x00, 0x00,
 ];
 
-// A commit of several topics, one of which stands for no part. The client id and a metadata are null.
+// A commit of several topics, one of them with no part. The client id and a metadata are null.
 const LONG_REQUEST: [u8; 100] = [
     // size, api key, api version, correlation id, client id
     0x00, 0x00, 0x00, 0x60, 0x00, 0x08, 0x00, 0x02, 0xFF, 0xFF, 0xFF, 0xFB, 0xFF, 0xFF, //
@@ -100,6 +100,51 @@ const LONG_FETCH_REPLY: [u8; 83] = [
     0x00, 0x00, 0xFF, 0xFF,
 ];
 
+const ONE_ITEM: [CommitItem<'static>; 1] = [CommitItem {
+    part: 0,
+    position: 10,
+    metadata: Some(""),
+}];
+
+const ONE_TOPIC: [CommitTopic<'static>; 1] = [CommitTopic {
+    name: "t",
+    items: &ONE_ITEM,
+}];
+
+const A_ITEMS: [CommitItem<'static>; 2] = [
+    CommitItem {
+        part: 7,
+        position: i64::MAX,
+        metadata: Some("x"),
+    },
+    CommitItem {
+        part: 1,
+        position: 0,
+        metadata: None,
+    },
+];
+
+const B_ITEMS: [CommitItem<'static>; 1] = [CommitItem {
+    part: 5,
+    position: 3,
+    metadata: Some(""),
+}];
+
+const TOPICS: [CommitTopic<'static>; 3] = [
+    CommitTopic {
+        name: "a",
+        items: &A_ITEMS,
+    },
+    CommitTopic {
+        name: "",
+        items: &[],
+    },
+    CommitTopic {
+        name: "b",
+        items: &B_ITEMS,
+    },
+];
+
 const ENTRIES: [FetchEntry<'static>; 3] = [
     FetchEntry {
         position: i64::MAX,
@@ -131,7 +176,7 @@ fn changed<const N: usize>(frame: &[u8; N], changes: &[(usize, u8)]) -> [u8; N] 
 
 #[test]
 fn a_commit_request(rt: HostRuntime) -> Result<(), Fail> {
-    let request = read_commit_request(&REQUEST).ok().ok_or("it is one")?;
+    let request = read_commit_request(&REQUEST)?;
     assert_eq!(rt;
         (request.correlation, request.generation, request.retention),
         (1, 1, -1)
@@ -146,12 +191,7 @@ fn a_commit_request(rt: HostRuntime) -> Result<(), Fail> {
     assert!(rt; item.metadata == Some(""));
     assert!(rt; items.next().is_none() && topics.next().is_none());
 
-    let items = [item];
-    let topics = [CommitTopic {
-        name: "t",
-        items: &items,
-    }];
-    let frame = write_commit_request(rt.alloc(), 1, Some("pc"), "g", 1, "", -1, &topics)?;
+    let frame = write_commit_request(rt.alloc(), 1, Some("pc"), "g", 1, "", -1, &ONE_TOPIC)?;
     assert_eq!(rt; frame.as_slice(), REQUEST.as_slice());
     let reply = write_commit_reply(rt.alloc(), &request, &[0])?;
     assert_eq!(rt; reply.as_slice(), REPLY.as_slice());
@@ -160,7 +200,7 @@ fn a_commit_request(rt: HostRuntime) -> Result<(), Fail> {
 
 #[test]
 fn a_commit_reply(rt: HostRuntime) -> Result<(), Fail> {
-    let reply = read_commit_reply(&REPLY).ok().ok_or("it is one")?;
+    let reply = read_commit_reply(&REPLY)?;
     assert_eq!(rt; reply.correlation, 1);
     let mut topics = reply.topics();
     let (name, mut items) = topics.next().ok_or("a topic is left")?;
@@ -172,7 +212,7 @@ fn a_commit_reply(rt: HostRuntime) -> Result<(), Fail> {
 
 #[test]
 fn a_fetch(rt: HostRuntime) -> Result<(), Fail> {
-    let request = read_fetch_request(&FETCH).ok().ok_or("it is one")?;
+    let request = read_fetch_request(&FETCH)?;
     assert_eq!(rt; request.correlation, 2);
     assert!(rt; request.client == Some("pc") && request.group == "g");
     let mut topics = request.topics();
@@ -199,7 +239,7 @@ fn a_fetch(rt: HostRuntime) -> Result<(), Fail> {
 
 #[test]
 fn a_fetch_reply(rt: HostRuntime) -> Result<(), Fail> {
-    let reply = read_fetch_reply(&FETCH_REPLY).ok().ok_or("it is one")?;
+    let reply = read_fetch_reply(&FETCH_REPLY)?;
     assert_eq!(rt; reply.correlation, 2);
     let mut topics = reply.topics();
     let (name, mut items) = topics.next().ok_or("a topic is left")?;
@@ -214,38 +254,7 @@ fn a_fetch_reply(rt: HostRuntime) -> Result<(), Fail> {
 #[test]
 fn several_topics(rt: HostRuntime) -> Result<(), Fail> {
     let alloc = rt.alloc();
-    let a = [
-        CommitItem {
-            part: 7,
-            position: i64::MAX,
-            metadata: Some("x"),
-        },
-        CommitItem {
-            part: 1,
-            position: 0,
-            metadata: None,
-        },
-    ];
-    let b = [CommitItem {
-        part: 5,
-        position: 3,
-        metadata: Some(""),
-    }];
-    let topics = [
-        CommitTopic {
-            name: "a",
-            items: &a,
-        },
-        CommitTopic {
-            name: "",
-            items: &[],
-        },
-        CommitTopic {
-            name: "b",
-            items: &b,
-        },
-    ];
-    let frame = write_commit_request(alloc, -5, None, "gr", -1, "m", 1000, &topics)?;
+    let frame = write_commit_request(alloc, -5, None, "gr", -1, "m", 1000, &TOPICS)?;
     assert_eq!(rt; frame.as_slice(), LONG_REQUEST.as_slice());
     let topics = [
         FetchTopic {
@@ -268,15 +277,15 @@ fn several_topics(rt: HostRuntime) -> Result<(), Fail> {
 
 #[test]
 fn replies_to_several_topics(rt: HostRuntime) -> Result<(), Fail> {
-    let request = read_commit_request(&LONG_REQUEST).ok().ok_or("it is one")?;
+    let request = read_commit_request(&LONG_REQUEST)?;
     assert!(rt; request.client.is_none());
     let reply = write_commit_reply(rt.alloc(), &request, &[0, 12, 25])?;
     assert_eq!(rt; reply.as_slice(), LONG_REPLY.as_slice());
-    let request = read_fetch_request(&LONG_FETCH).ok().ok_or("it is one")?;
+    let request = read_fetch_request(&LONG_FETCH)?;
     let reply = write_fetch_reply(rt.alloc(), &request, &ENTRIES)?;
     assert_eq!(rt; reply.as_slice(), LONG_FETCH_REPLY.as_slice());
 
-    let reply = read_fetch_reply(&LONG_FETCH_REPLY).ok().ok_or("it is one")?;
+    let reply = read_fetch_reply(&LONG_FETCH_REPLY)?;
     let (_, mut items) = reply.topics().next().ok_or("a topic is left")?;
     let (part, first) = items.next().ok_or("an item is left")?;
     assert_eq!(rt; (part, first.position), (7, i64::MAX));
@@ -385,7 +394,7 @@ fn texts_that_are_too_long(rt: HostRuntime) -> Result<(), Fail> {
         let refused = write_fetch_request(alloc, 1, client, group, &topics).err();
         assert_eq!(rt; refused, Some(WireWriteFault::TooLong));
     }
-    let request = read_fetch_request(&FETCH).ok().ok_or("it is one")?;
+    let request = read_fetch_request(&FETCH)?;
     let entry = FetchEntry {
         position: 0,
         metadata: Some(text),
