@@ -42,7 +42,7 @@ fn client_over(alloc: Global, reply: &'static [u8]) -> Client<Canned> {
 
 /// Replies to the first commit of part 0, and what they answer. Each but the faults of reading has
 /// its size, correlation id, count of topics, name, count of parts, part and code.
-const COMMITS: [(&[u8], Result<(), ClientFault>); 11] = [
+const COMMITS: [(&[u8], Result<(), ClientFault>); 12] = [
     (
         b"\0\0\0\x17\0\0\0\x01\0\0\0\x01\0\x03log\0\0\0\x01\0\0\0\0\0\0",
         Ok(()),
@@ -62,6 +62,10 @@ const COMMITS: [(&[u8], Result<(), ClientFault>); 11] = [
     (
         b"\0\0\0\x17\0\0\0\x01\0\0\0\x01\xff\xfflog\0\0\0\x01\0\0\0\0\0\0",
         Err(ClientFault::BadReply(WireFault::NegativeLength)),
+    ),
+    (
+        b"\0\0\0\x17\0\0\0\x01\0\0\0\x01\0\x03l\xffg\0\0\0\x01\0\0\0\0\0\0",
+        Err(ClientFault::BadReply(WireFault::NotUtf8)),
     ),
     (
         b"\0\0\0\x17\0\0\0\x02\0\0\0\x01\0\x03log\0\0\0\x01\0\0\0\0\0\0",
