@@ -188,10 +188,11 @@ const FAULTS: [(Faults, &[u8], u8, u64); 9] = [
 ];
 
 /// The broker of a topic with two parts. For part 0 it has a commit where a position is given.
-fn broker(alloc: Global, topic: &str, position: Option<u64>) -> Result<OffsetBroker, Fail> {
+fn broker(alloc: Global, topic: &str, position: Option<u32>) -> Result<OffsetBroker, Fail> {
     let mut broker = OffsetBroker::new(alloc, topic, 2)?;
     if let Some(position) = position {
         let map = MapText::from_str(alloc, "bAACAg==")?;
+        let position = u64::from(position);
         broker.with(GROUP, 0, Commit { position, map })?;
     }
     Ok(broker)
@@ -230,15 +231,7 @@ fn play(
     let Ok(link) = FailingLink::new(alloc, broker, faults.calls, faults.late) else {
         return Err(AllocError.into());
     };
-    Ok(play_over(
-        alloc,
-        words,
-        log,
-        script,
-        faults.reads,
-        link,
-        out,
-    )?)
+    Ok(play_over(alloc, words, log, script, faults.reads, link, out)?)
 }
 
 const WORDS: [&str; 3] = ["play", "a.log", "a.script"];
@@ -271,7 +264,7 @@ fn each_fault_of_the_outside(rt: HostRuntime) -> Result<(), Fail> {
 type Stored = (
     &'static [u8],
     &'static str,
-    Option<u64>,
+    Option<u32>,
     &'static [u64],
     &'static [u64],
     &'static [u8],
@@ -336,8 +329,12 @@ const MAPS: [&str; 3] = ["", "bAACAg==", ""];
 fn the_store_has_what_may_be_stored(rt: HostRuntime) -> Result<(), Fail> {
     for i in 0..5 {
         let (script, topic, position, fails, late, output, stored) = STORED[i];
-        let Ok(link) = FailingLink::new(rt.alloc(), broker(rt.alloc(), topic, position)?, fails, late)
-        else {
+        let Ok(link) = FailingLink::new(
+            rt.alloc(),
+            broker(rt.alloc(), topic, position)?,
+            fails,
+            late,
+        ) else {
             return Err(AllocError.into());
         };
         let mut out = MemorySink::new(rt.alloc(), ROOM, &[])?;
@@ -347,7 +344,11 @@ fn the_store_has_what_may_be_stored(rt: HostRuntime) -> Result<(), Fail> {
         let mut client = Client::new(rt.alloc(), ended.link.into_link());
         if i < 3 {
             let commit = client.fetch(0)?;
-            assert_eq!(rt; (commit.position, commit.map.as_str()), (stored, MAPS[i]), "at {i}");
+            assert_eq!(rt;
+                (commit.position, commit.map.as_str()),
+                (stored, MAPS[i]),
+                "at {i}"
+            );
         }
     }
     Ok(())
