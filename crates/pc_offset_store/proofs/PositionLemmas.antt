@@ -7,7 +7,7 @@ use Rattle.pc_model.specs.Broker.{Broker, fetch_entry}
 use Rattle.pc_model.specs.Messages.{FetchEntry, FetchRequest, Topic}
 use Rattle.pc_offset_wire.specs.declared.fetch.FetchEntry as wire
 use Rattle.pc_offset_wire.specs.Replies.{IsAnswerable}
-use Rattle.pc_offset_wire.specs.Views.{fetch_entry_of}
+use Rattle.pc_offset_wire.specs.Views.{plain_fetch_entry}
 use Rattle.pc_world.specs.World.{AreStorable}
 use Rattle.pc_offset_store.specs.Store.{entries_of}
 use Rattle.pc_offset_store.proofs.EntryLemmas.{IsSmall, small}
@@ -28,12 +28,12 @@ module _ (b : Broker) (r : FetchRequest) (all : AreStorable b) where
   topics-small (topic ∷ topics) = all-append (entries_of b r topic) (flat_map (entries_of b r) topics)
       (parts-small topic.name topic.items) (topics-small topics)
 
-  answerable : (entries : List wire.FetchEntry) → AllByRecursion IsSmall (map fetch_entry_of entries)
+  answerable : (entries : List wire.FetchEntry) → AllByRecursion IsSmall (map plain_fetch_entry entries)
       → AllByRecursion IsAnswerable entries
   answerable [] these = tt
   answerable (e ∷ es) these = (these.0.least, answerable es these.1)
 
   pub are-answerable : (entries : List wire.FetchEntry)
-      → map fetch_entry_of entries ≡ flat_map (entries_of b r) r.topics → All IsAnswerable entries
+      → map plain_fetch_entry entries ≡ flat_map (entries_of b r) r.topics → All IsAnswerable entries
   are-answerable entries are = All-from_recursion IsAnswerable entries
       (answerable entries (subst (AllByRecursion IsSmall) (sym are) (topics-small r.topics)))

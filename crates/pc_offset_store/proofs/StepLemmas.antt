@@ -10,7 +10,7 @@ use Rattle.pc_offset_wire.specs.declared.fetch.FetchEntry as wire
 use Rattle.pc_offset_wire.specs.declared.write_fault.WireWriteFault.{WireWriteFault}
 use Rattle.pc_offset_wire.specs.declared.write_fault.WireWriteFault.TheVariants.{TooLong as LongFrame, NoMemory as NoFrame}
 use Rattle.pc_offset_wire.specs.Replies.{answered_topics, code_of, commit_reply_to, fetch_reply_to}
-use Rattle.pc_offset_wire.specs.Views.{fetch_entry_of}
+use Rattle.pc_offset_wire.specs.Views.{plain_fetch_entry}
 use Rattle.pc_world.specs.World.{AreStorable}
 use Rattle.pc_offset_store.specs.Store.{accepted_of, codes_of, entries_of, fault_of, put_each}
 use Rattle.pc_offset_store.specs.Steps.{IsReply}
@@ -78,13 +78,13 @@ commits-done b after r codes accepted frame are these stored is =
 -- ---- fetches
 
 module _ (b : Broker) (r : FetchRequest) (entries : List wire.FetchEntry)
-    (are : map fetch_entry_of entries ≡ flat_map (entries_of b r) r.topics) where
+    (are : map plain_fetch_entry entries ≡ flat_map (entries_of b r) r.topics) where
   abbrev paired : ℤ → FetchEntry → ℤ × FetchEntry
   paired part entry = (part, entry)
 
   same-entries : fetch_reply_to r entries ≡ fetch_reply_of b r
   same-entries = ap (λ (topics : List (Topic (ℤ × FetchEntry))). record { correlation = r.correlation; topics = topics })
-      (topics_seen fetch_entry_of paired r.topics entries
+      (topics_seen plain_fetch_entry paired r.topics entries
       ∙ ap (answered_topics paired r.topics) are
       ∙ topics_made (fetch_entry b r.group) paired r.topics)
 

@@ -4,7 +4,7 @@ ghost use Rattle.std.specs.Prelude.{◌≡◌, ◌≤◌, ◌<◌, ◌^◌, ◌�
 ghost use Rattle.pc_model.specs.declared.wire_fault.WireFault.{WireFault};
 ghost use Rattle.pc_model.specs.Broker.{broker_step, entry_of, fetch_entry, has_part, is_fetch, item_code, membership_of, membership_refusal, place_code, stored_for, with_membership, with_stored};
 ghost use Rattle.pc_model.specs.Broker.{Commits, Fetches, Unread, TooLong as LongReply};
-ghost use Rattle.pc_offset_wire.specs.Views.{commit_item_of, commit_request_of, fetch_entry_of, fetch_request_of};
+ghost use Rattle.pc_offset_wire.specs.Views.{plain_commit_item, plain_commit_request, plain_fetch_entry, plain_fetch_request};
 ghost use Rattle.pc_offset_wire.specs.Writing.{IsCommitBody, IsFetchBody};
 ghost use Rattle.std.specs.Option.{option_copied};
 ghost use Rattle.pc_world.specs.World.{AreStorable, IsStorable};
@@ -134,7 +134,7 @@ impl OffsetBroker {
 
     /// Why the group of a request refuses what it commits, if it does.
     fn refusal(&self, request: &CommitRequest<'_>) -> Option<i16>
-        ensures { let r = commit_request_of request.now in result ≡ membership_refusal
+        ensures { let r = plain_commit_request request.now in result ≡ membership_refusal
             (membership_of self.now r.group) r.member r.generation }
     {
         match members::find(self.groups.as_slice(), request.group) {
@@ -145,7 +145,7 @@ impl OffsetBroker {
 
     /// The code of an item that the group does not refuse.
     fn place_code(&self, name: &str, item: &CommitItem<'_>) -> i16
-        ensures { result ≡ place_code self.now name.now (commit_item_of item.now) }
+        ensures { result ≡ place_code self.now name.now (plain_commit_item item.now) }
     {
         if !self.has_part(name, item.part) {
             return UNKNOWN_TOPIC_OR_PARTITION;
@@ -163,8 +163,8 @@ impl OffsetBroker {
         name: &str,
         item: &CommitItem<'_>,
     ) -> i16
-        ensures { result ≡ item_code self.now (commit_request_of request.now) name.now
-            (commit_item_of item.now) }
+        ensures { result ≡ item_code self.now (plain_commit_request request.now) name.now
+            (plain_commit_item item.now) }
     {
         match self.refusal(request) {
             Some(code) => code,
@@ -174,7 +174,7 @@ impl OffsetBroker {
 
     /// What is stored for a group and a part of a topic.
     pub(crate) fn entry_of(&self, group: &str, name: &str, part: i32) -> FetchEntry<'_>
-        ensures { fetch_entry_of result ≡ fetch_entry self.now group.now name.now part }
+        ensures { plain_fetch_entry result ≡ fetch_entry self.now group.now name.now part }
     {
         if !self.has_part(name, part) {
             return entries::nothing(UNKNOWN_TOPIC_OR_PARTITION);
@@ -184,7 +184,7 @@ impl OffsetBroker {
 
     /// What is stored for a group and a part that the topic has.
     fn stored_entry(&self, group: &str, part: u32) -> FetchEntry<'_>
-        ensures { fetch_entry_of result ≡ entry_of (stored_for self.now group.now part) }
+        ensures { plain_fetch_entry result ≡ entry_of (stored_for self.now group.now part) }
     {
         match self.stored(group, part) {
             Some(commit) => entries::stored(commit),
@@ -251,8 +251,8 @@ impl OffsetBroker {
 
     /// The reply to a fetch request.
     fn fetched(&self, request: &FetchRequest<'_>) -> Result<Vec<u8>, BrokerFault>
-        requires { IsFetchBody (fetch_request_of request.now) }
-        ensures reply { IsReply result (λ v. v.items) (Fetches (fetch_request_of request.now))
+        requires { IsFetchBody (plain_fetch_request request.now) }
+        ensures reply { IsReply result (λ v. v.items) (Fetches (plain_fetch_request request.now))
             self.now self.now }
         ensures storable { AreStorable self.now }
     {
@@ -262,8 +262,8 @@ impl OffsetBroker {
 
     /// Stores what a commit request has to be stored, and gives the reply.
     fn committed(&mut self, request: &CommitRequest<'_>) -> Result<Vec<u8>, BrokerFault>
-        requires { IsCommitBody (commit_request_of request.now) }
-        ensures reply { IsReply result (λ v. v.items) (Commits (commit_request_of request.now))
+        requires { IsCommitBody (plain_commit_request request.now) }
+        ensures reply { IsReply result (λ v. v.items) (Commits (plain_commit_request request.now))
             self.old self.new }
         ensures storable { AreStorable self.old }
     {

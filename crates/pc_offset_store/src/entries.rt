@@ -6,7 +6,7 @@ ghost use Rattle.std.specs.List.{flat_map};
 ghost use Rattle.pc_model.specs.Broker.{entry_of, fetch_entry};
 ghost use Rattle.pc_model.specs.MessageReading.{part_id_at};
 ghost use Rattle.pc_offset_wire.specs.Items.{items_left};
-ghost use Rattle.pc_offset_wire.specs.Views.{fetch_entry_of, fetch_request_of};
+ghost use Rattle.pc_offset_wire.specs.Views.{plain_fetch_entry, plain_fetch_request};
 ghost use Rattle.pc_offset_store.specs.Store.{entries_of};
 
 use crate::broker::OffsetBroker;
@@ -21,9 +21,9 @@ pub fn of<'a>(
     broker: &'a OffsetBroker,
     request: &FetchRequest<'_>,
 ) -> Result<Vec<FetchEntry<'a>>, AllocError>
-    ensures { IfOk result (λ entries. map fetch_entry_of entries.items ≡
-        flat_map (entries_of broker.now (fetch_request_of request.now))
-        (fetch_request_of request.now).topics) }
+    ensures { IfOk result (λ entries. map plain_fetch_entry entries.items ≡
+        flat_map (entries_of broker.now (plain_fetch_request request.now))
+        (plain_fetch_request request.now).topics) }
 {
     let mut entries = Vec::new(alloc);
     for (name, parts) in request.topics() {
@@ -40,8 +40,8 @@ fn put_topic<'a>(
     parts: PartItems<'_>,
     entries: &mut Vec<FetchEntry<'a>>,
 ) -> Result<(), AllocError>
-    ensures { OnOk result (map fetch_entry_of entries.new.items
-        ≡ map fetch_entry_of entries.old.items
+    ensures { OnOk result (map plain_fetch_entry entries.new.items
+        ≡ map plain_fetch_entry entries.old.items
         ++ map (fetch_entry broker.now group.now name.now) (items_left part_id_at parts.entry)) }
 {
     for part in parts {
@@ -52,7 +52,7 @@ fn put_topic<'a>(
 
 /// The entry where nothing is stored, with a code.
 pub fn nothing<'a>(code: i16) -> FetchEntry<'a>
-    ensures { fetch_entry_of result ≡ record
+    ensures { plain_fetch_entry result ≡ record
         { position = negsuc 0; metadata = Some []; code = code } }
 {
     FetchEntry {
@@ -65,7 +65,7 @@ pub fn nothing<'a>(code: i16) -> FetchEntry<'a>
 /// The entry of a commit that is stored.
 pub fn stored(commit: &Commit) -> FetchEntry<'_>
     requires { commit.now.position < 2 ^ 63 }
-    ensures { fetch_entry_of result ≡ entry_of (Some commit.now) }
+    ensures { plain_fetch_entry result ≡ entry_of (Some commit.now) }
 {
     FetchEntry {
         position: commit.position as i64,

@@ -7,7 +7,7 @@ ghost use Rattle.pc_model.specs.Broker.{commit_in, item_code, metadata_text};
 ghost use Rattle.pc_model.specs.Messages.{CommitItem as PlainItem, Topic};
 ghost use Rattle.pc_model.specs.MessageReading.{commit_item_at};
 ghost use Rattle.pc_offset_wire.specs.Items.{items_left};
-ghost use Rattle.pc_offset_wire.specs.Views.{commit_item_of, commit_request_of};
+ghost use Rattle.pc_offset_wire.specs.Views.{plain_commit_item, plain_commit_request};
 ghost use Rattle.pc_offset_store.specs.Store.{IsDecided, accepted_item, accepted_of, codes_of, stored_of};
 
 use crate::broker::OffsetBroker;
@@ -30,11 +30,11 @@ pub fn of(
     request: &CommitRequest<'_>,
 ) -> Result<Verdict, AllocError>
     ensures codes { IfOk result (λ v. v.codes.items ≡
-        flat_map (codes_of broker.now (commit_request_of request.now))
-        (commit_request_of request.now).topics) }
+        flat_map (codes_of broker.now (plain_commit_request request.now))
+        (plain_commit_request request.now).topics) }
     ensures accepted { IfOk result (λ v. map stored_of v.accepted.items ≡
-        flat_map (accepted_of broker.now (commit_request_of request.now))
-        (commit_request_of request.now).topics) }
+        flat_map (accepted_of broker.now (plain_commit_request request.now))
+        (plain_commit_request request.now).topics) }
 {
     let mut verdict = Verdict {
         codes: Vec::new(alloc),
@@ -57,8 +57,8 @@ fn put_topic(
 ) -> Result<(), AllocError>
     ensures { let topic : Topic PlainItem = record
         { name = name.now; items = items_left commit_item_at items.entry } in
-        OnOk result (IsDecided (codes_of broker.now (commit_request_of request.now) topic)
-        (accepted_of broker.now (commit_request_of request.now) topic) verdict.old verdict.new) }
+        OnOk result (IsDecided (codes_of broker.now (plain_commit_request request.now) topic)
+        (accepted_of broker.now (plain_commit_request request.now) topic) verdict.old verdict.new) }
 {
     for item in items {
         put_item(alloc, broker, request, name, &item, verdict)?;
@@ -76,9 +76,9 @@ fn put_item(
     verdict: &mut Verdict,
 ) -> Result<(), AllocError>
     ensures { OnOk result (IsDecided
-        (item_code broker.now (commit_request_of request.now) name.now (commit_item_of item.now)
-        ∷ []) (accepted_item broker.now (commit_request_of request.now) name.now
-        (commit_item_of item.now)) verdict.old verdict.new) }
+        (item_code broker.now (plain_commit_request request.now) name.now (plain_commit_item item.now)
+        ∷ []) (accepted_item broker.now (plain_commit_request request.now) name.now
+        (plain_commit_item item.now)) verdict.old verdict.new) }
 {
     let code = broker.code_of(request, name, item);
     verdict.codes.push(code)?;
@@ -91,7 +91,7 @@ fn put_item(
 
 /// What is stored for an item of a group.
 fn commit_of(alloc: Global, group: &str, item: &CommitItem<'_>) -> Result<GroupCommit, AllocError>
-    ensures { let plain = commit_item_of item.now in IfOk result (λ c. stored_of c ≡ record
+    ensures { let plain = plain_commit_item item.now in IfOk result (λ c. stored_of c ≡ record
         { group = group.now; part = unsigned_abs plain.part; commit = commit_in plain }) }
 {
     let part = item.part.unsigned_abs();

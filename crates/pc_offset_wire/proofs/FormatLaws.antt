@@ -119,10 +119,6 @@ int-format w wide = record { read = int-read w wide; only = int-only w wide }
 
 -- ---- lengths and counts
 
--- a size that fits
-abbrev Holds_size : Width → ℕ → Type 0
-Holds_size w n = FitsSigned w (pos n)
-
 size_of-only : (z : ℤ × List ℕ) (n : ℕ) (rest : List ℕ) → size_of z ≡ Ok (n, rest) → z ≡ (pos n, rest)
 size_of-only (pos m, after) n rest e = ap (λ (x : ℕ × List ℕ). (pos x.0, x.1)) (ok_is (m, after) (n, rest) e)
 size_of-only (negsuc m, after) n rest e = absurd cc

@@ -5,3 +5,5 @@ pub mod ReplyLemmas
 pub mod FormatLaws
 pub mod ItemLaws
 pub mod MessageLaws
+pub mod OnLiterals
+pub mod CountLemmas

@@ -8,7 +8,7 @@ use Rattle.std.proofs.lemmas.Int.{ints}
 use Rattle.std.proofs.lemmas.List.{append-nil, at_drop_more, drop_all}
 use Rattle.std.proofs.lemmas.Str.{is_utf8-from_IsUtf8}
 use Rattle.pc_model.specs.declared.api.TheConstants.{OFFSET_COMMIT, OFFSET_COMMIT_VERSION}
-use Rattle.pc_model.specs.Messages.{CommitItem, CommitRequest, FetchEntry, IsString, IsNullable, IsArray, IsTopic, AreTopics, IsFrame, IsCommitRequest, IsPosition, IsCommitItem, IsEntry, int_spelling, string_spelling, nullable_spelling, array_spelling, topic_spelling, header_spelling, commit_item_spelling, entry_spelling, topics_spelling, commit_request_body}
+use Rattle.pc_model.specs.Messages.{CommitItem, CommitRequest, FetchEntry, IsString, IsNullable, IsArray, AreTopics, IsFrame, IsCommitRequest, IsPosition, IsCommitItem, IsEntry, int_spelling, string_spelling, nullable_spelling, array_spelling, header_spelling, commit_item_spelling, entry_spelling, topics_spelling, commit_request_body}
 use Rattle.pc_offset_wire.specs.declared.write_fault.WireWriteFault.{WireWriteFault}
 use Rattle.pc_offset_wire.specs.declared.write_fault.WireWriteFault.TheVariants.{TooLong, NoMemory}
 use Rattle.pc_offset_wire.specs.Writing.{Puts, IsCommitBody}
@@ -82,14 +82,6 @@ module _ {A : Type 0} (spelled : A → List ℕ) (IsItem : A → Type 0) (all : 
 -- the count did not fit
 pub array-uncounted : {A : Type 0} (spelled : A → List ℕ) (IsItem : A → Type 0) (all : List A) (count : ℕ) (old new last : List ℕ) (fault : WireWriteFault) → count ≡ length all → Puts (int_spelling w32 (pos count)) (count < 2 ^ 31) old new (Err fault) → Puts (array_spelling spelled all) (IsArray IsItem all) old last (Err fault)
 array-uncounted spelled IsItem all count old new last fault e h = Puts-fails fault (int_spelling w32 (pos count)) (array_spelling spelled all) old old new last (count < 2 ^ 31) (IsArray IsItem all) (λ w. subst (λ (n : ℕ). n < 2 ^ 31) (sym e) w.few) h
-
--- a name and its items were put
-pub topic-put : {A : Type 0} (spelled : A → List ℕ) (IsItem : A → Type 0) (name : List ℕ) (items : List A) (old mid new : List ℕ) → (mid ≡ old ++ string_spelling name) × IsString name → (new ≡ mid ++ array_spelling spelled items) × IsArray IsItem items → (new ≡ old ++ topic_spelling spelled (record { name = name; items = items })) × IsTopic IsItem (record { name = name; items = items })
-topic-put spelled IsItem name items old mid new a b = (b.0 ∙ ap (λ (x : List ℕ). x ++ array_spelling spelled items) a.0 ∙ append_assoc old (string_spelling name) (array_spelling spelled items), record { name = a.1; items = b.1 })
-
--- the items of a topic were not put
-pub topic-fails : {A : Type 0} (spelled : A → List ℕ) (IsItem : A → Type 0) (name : List ℕ) (items : List A) (now mid new last : List ℕ) (fault : WireWriteFault) → Puts (array_spelling spelled items) (IsArray IsItem items) mid new (Err fault) → Puts (topic_spelling spelled (record { name = name; items = items })) (IsTopic IsItem (record { name = name; items = items })) now last (Err fault)
-topic-fails spelled IsItem name items now mid new last fault h = Puts-fails fault (array_spelling spelled items) (topic_spelling spelled (record { name = name; items = items })) now mid new last (IsArray IsItem items) (IsTopic IsItem (record { name = name; items = items })) (λ w. w.items) h
 
 -- ---- fields, one behind the other
 

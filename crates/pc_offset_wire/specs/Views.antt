@@ -14,24 +14,24 @@ use Rattle.pc_offset_wire.specs.Items.{items_left}
 
 -- ---- the items
 
-abbrev pub commit_item_of : CommitItem → messages.CommitItem
-commit_item_of item = record
+abbrev pub plain_commit_item : CommitItem → messages.CommitItem
+plain_commit_item item = record
     { part = item.part; position = item.position; metadata = option_copied item.metadata }
 
-abbrev pub commit_code_of : CommitCode → messages.CommitCode
-commit_code_of item = record { part = item.part; code = item.code }
+abbrev pub plain_commit_code : CommitCode → messages.CommitCode
+plain_commit_code item = record { part = item.part; code = item.code }
 
-abbrev pub fetch_entry_of : FetchEntry → messages.FetchEntry
-fetch_entry_of entry = record
+abbrev pub plain_fetch_entry : FetchEntry → messages.FetchEntry
+plain_fetch_entry entry = record
     { position = entry.position; metadata = option_copied entry.metadata; code = entry.code }
 
-abbrev pub part_entry_of : ℤ × FetchEntry → ℤ × messages.FetchEntry
-part_entry_of item = (item.0, fetch_entry_of item.1)
+abbrev pub plain_part_entry : ℤ × FetchEntry → ℤ × messages.FetchEntry
+plain_part_entry item = (item.0, plain_fetch_entry item.1)
 
 -- ---- the messages
 
-abbrev pub commit_request_of : CommitRequest → messages.CommitRequest
-commit_request_of r = record {
+abbrev pub plain_commit_request : CommitRequest → messages.CommitRequest
+plain_commit_request r = record {
   correlation = r.correlation;
   client = option_copied r.client;
   group = r.group.now;
@@ -41,18 +41,18 @@ commit_request_of r = record {
   topics = items_left (topic_at commit_item_at) r.topics;
 }
 
-abbrev pub commit_reply_of : CommitReply → messages.CommitReply
-commit_reply_of r = record
+abbrev pub plain_commit_reply : CommitReply → messages.CommitReply
+plain_commit_reply r = record
     { correlation = r.correlation; topics = items_left (topic_at commit_code_at) r.topics }
 
-abbrev pub fetch_request_of : FetchRequest → messages.FetchRequest
-fetch_request_of r = record {
+abbrev pub plain_fetch_request : FetchRequest → messages.FetchRequest
+plain_fetch_request r = record {
   correlation = r.correlation;
   client = option_copied r.client;
   group = r.group.now;
   topics = items_left (topic_at part_id_at) r.topics;
 }
 
-abbrev pub fetch_reply_of : FetchReply → messages.FetchReply
-fetch_reply_of r = record
+abbrev pub plain_fetch_reply : FetchReply → messages.FetchReply
+plain_fetch_reply r = record
     { correlation = r.correlation; topics = items_left (topic_at entry_at) r.topics }

@@ -8,10 +8,10 @@ use Rattle.pc_offset_wire.specs.declared.write_fault.WireWriteFault.TheVariants.
 use Rattle.pc_offset_wire.specs.declared.commit.CommitItem.{CommitItem}
 use Rattle.pc_offset_wire.specs.declared.commit_writing.CommitTopic.{CommitTopic}
 use Rattle.pc_offset_wire.specs.declared.fetch_writing.FetchTopic.{FetchTopic}
-use Rattle.pc_offset_wire.specs.Views.{commit_item_of}
+use Rattle.pc_offset_wire.specs.Views.{plain_commit_item}
 
--- The text was put behind what stood there, and the fact holds; or the fact does not hold; or memory
--- ran out.
+-- The text was put behind what stood there, and the fact holds; or the fact does not hold; or
+-- memory ran out.
 abbrev pub Puts : List ℕ → Type 0 → List ℕ → List ℕ → Result (Unit {0}) WireWriteFault → Type 0
 Puts text Fits old new (Ok done) = (new ≡ old ++ text) × Fits
 Puts text Fits old new (Err TooLong) = Fits → ⊥
@@ -25,11 +25,12 @@ IsStorable item = pos 0 ≤ℤ item.position
 abbrev pub AreStorable : CommitTopic → Type 0
 AreStorable topic = All IsStorable topic.items.now
 
-abbrev pub commit_topic_of : CommitTopic → messages.Topic messages.CommitItem
-commit_topic_of topic = record { name = topic.name.now; items = map commit_item_of topic.items.now }
+abbrev pub plain_commit_topic : CommitTopic → messages.Topic messages.CommitItem
+plain_commit_topic topic = record
+    { name = topic.name.now; items = map plain_commit_item topic.items.now }
 
-abbrev pub fetch_topic_of : FetchTopic → messages.Topic ℤ
-fetch_topic_of topic = record { name = topic.name.now; items = topic.parts.now }
+abbrev pub plain_fetch_topic : FetchTopic → messages.Topic ℤ
+plain_fetch_topic topic = record { name = topic.name.now; items = topic.parts.now }
 
 abbrev pub commit_message : ℤ → Option (List ℕ) → List ℕ → ℤ → List ℕ → ℤ → List CommitTopic
     → messages.CommitRequest
@@ -40,7 +41,7 @@ commit_message correlation client group generation member retention topics = rec
   generation = generation;
   member = member;
   retention = retention;
-  topics = map commit_topic_of topics;
+  topics = map plain_commit_topic topics;
 }
 
 abbrev pub fetch_message : ℤ → Option (List ℕ) → List ℕ → List FetchTopic → messages.FetchRequest
@@ -48,7 +49,7 @@ fetch_message correlation client group topics = record {
   correlation = correlation;
   client = client;
   group = group;
-  topics = map fetch_topic_of topics;
+  topics = map plain_fetch_topic topics;
 }
 
 -- ---- what has a body

@@ -5,7 +5,7 @@ ghost use Rattle.pc_model.specs.Messages.{IsCommitRequest, IsCommitReply};
 ghost use Rattle.pc_model.specs.MessageReading.{topic_at, commit_item_at, commit_code_at, commit_request_at, commit_reply_at, commit_request_reading, commit_reply_reading};
 ghost use Rattle.pc_offset_wire.specs.Reading.{Gives};
 ghost use Rattle.pc_offset_wire.specs.Items.{items_left};
-ghost use Rattle.pc_offset_wire.specs.Views.{commit_item_of, commit_code_of, commit_request_of, commit_reply_of};
+ghost use Rattle.pc_offset_wire.specs.Views.{plain_commit_item, plain_commit_code, plain_commit_request, plain_commit_reply};
 
 use crate::items::{self, Items, WireItem};
 use crate::{fields, frame};
@@ -67,11 +67,11 @@ pub struct CommitReply<'a> {
 impl<'a> WireItem<'a> for CommitItem<'a> {
     ghost use Rattle.pc_model.specs.Messages.{CommitItem as PlainCommitItem};
     ghost use Rattle.pc_model.specs.MessageReading.{commit_item_at};
-    ghost use Rattle.pc_offset_wire.specs.Views.{commit_item_of};
+    ghost use Rattle.pc_offset_wire.specs.Views.{plain_commit_item};
 
     ghost Plain = { PlainCommitItem };
 
-    ghost plain = { commit_item_of };
+    ghost plain = { plain_commit_item };
 
     ghost at = { commit_item_at };
 
@@ -94,11 +94,11 @@ impl<'a> WireItem<'a> for CommitItem<'a> {
 impl<'a> WireItem<'a> for CommitCode {
     ghost use Rattle.pc_model.specs.Messages.{CommitCode as PlainCommitCode};
     ghost use Rattle.pc_model.specs.MessageReading.{commit_code_at};
-    ghost use Rattle.pc_offset_wire.specs.Views.{commit_code_of};
+    ghost use Rattle.pc_offset_wire.specs.Views.{plain_commit_code};
 
     ghost Plain = { PlainCommitCode };
 
-    ghost plain = { commit_code_of };
+    ghost plain = { plain_commit_code };
 
     ghost at = { commit_code_at };
 
@@ -114,25 +114,27 @@ impl<'a> CommitRequest<'a> {
     /// The topics, in their order.
     pub fn topics(&self) -> CommitTopics<'a>
         ensures { items_left (topic_at commit_item_at) result
-            ≡ (commit_request_of self.now).topics }
+            ≡ (plain_commit_request self.now).topics }
     {
-        Items::of(self.topics.bytes, self.topics.count)
+        self.topics.again()
     }
 }
 
 impl<'a> CommitReply<'a> {
     /// The topics, in their order.
     pub fn topics(&self) -> CodeTopics<'a>
-        ensures { items_left (topic_at commit_code_at) result ≡ (commit_reply_of self.now).topics }
+        ensures { items_left (topic_at commit_code_at) result
+            ≡ (plain_commit_reply self.now).topics }
     {
-        Items::of(self.topics.bytes, self.topics.count)
+        self.topics.again()
     }
 }
 
 /// The request at the front of the bytes.
 #[tactic(auto, unfolding(pc_model::specs::MessageReading::commit_request_at))]
 fn commit_request(bytes: &[u8]) -> Result<(CommitRequest<'_>, &[u8]), WireFault>
-    ensures { Gives (λ x. (commit_request_of x.0, x.1.now)) result (commit_request_at bytes.now) }
+    ensures { Gives (λ x. (plain_commit_request x.0, x.1.now)) result
+        (commit_request_at bytes.now) }
 {
     let (correlation, client, rest) = frame::header(OFFSET_COMMIT, OFFSET_COMMIT_VERSION, bytes)?;
     let (group, rest) = fields::string(rest)?;
@@ -157,7 +159,7 @@ fn commit_request(bytes: &[u8]) -> Result<(CommitRequest<'_>, &[u8]), WireFault>
 /// The reply at the front of the bytes.
 #[tactic(auto, unfolding(pc_model::specs::MessageReading::commit_reply_at))]
 fn commit_reply(bytes: &[u8]) -> Result<(CommitReply<'_>, &[u8]), WireFault>
-    ensures { Gives (λ x. (commit_reply_of x.0, x.1.now)) result (commit_reply_at bytes.now) }
+    ensures { Gives (λ x. (plain_commit_reply x.0, x.1.now)) result (commit_reply_at bytes.now) }
 {
     let (correlation, rest) = fields::i32_at(bytes)?;
     let (topics, rest) = items::array(rest)?;
@@ -173,7 +175,7 @@ fn commit_reply(bytes: &[u8]) -> Result<(CommitReply<'_>, &[u8]), WireFault>
 /// The request that a frame is, or its first fault.
 #[tactic(auto, unfolding(pc_model::specs::MessageReading::frame_reading))]
 fn framed_commit_request(frame: &[u8]) -> Result<CommitRequest<'_>, WireFault>
-    ensures { Gives commit_request_of result (commit_request_reading frame.now) }
+    ensures { Gives plain_commit_request result (commit_request_reading frame.now) }
 {
     let body = frame::body(frame)?;
     let (request, rest) = commit_request(body)?;
@@ -183,11 +185,11 @@ fn framed_commit_request(frame: &[u8]) -> Result<CommitRequest<'_>, WireFault>
 /// Reads the commit request that a frame is. What is refused has its first fault.
 pub fn read_commit_request<'a>(frame: &'a [u8]) -> Result<CommitRequest<'a>, WireFault>
     // What is read is a request, and a request is read.
-    ensures found { IfOk result (λ r. IsCommitRequest frame.now (commit_request_of r)) }
+    ensures found { IfOk result (λ r. IsCommitRequest frame.now (plain_commit_request r)) }
     ensures only { (message : _) → IsCommitRequest frame.now message
-        → IsOkAnd result (λ r. commit_request_of r ≡ message) }
+        → IsOkAnd result (λ r. plain_commit_request r ≡ message) }
     // Which fault it is.
-    ensures exact { Gives commit_request_of result (commit_request_reading frame.now) }
+    ensures exact { Gives plain_commit_request result (commit_request_reading frame.now) }
 {
     framed_commit_request(frame)
 }
@@ -195,7 +197,7 @@ pub fn read_commit_request<'a>(frame: &'a [u8]) -> Result<CommitRequest<'a>, Wir
 /// The reply that a frame is, or its first fault.
 #[tactic(auto, unfolding(pc_model::specs::MessageReading::frame_reading))]
 fn framed_commit_reply(frame: &[u8]) -> Result<CommitReply<'_>, WireFault>
-    ensures { Gives commit_reply_of result (commit_reply_reading frame.now) }
+    ensures { Gives plain_commit_reply result (commit_reply_reading frame.now) }
 {
     let body = frame::body(frame)?;
     let (reply, rest) = commit_reply(body)?;
@@ -205,11 +207,11 @@ fn framed_commit_reply(frame: &[u8]) -> Result<CommitReply<'_>, WireFault>
 /// Reads the commit reply that a frame is. What is refused has its first fault.
 pub fn read_commit_reply<'a>(frame: &'a [u8]) -> Result<CommitReply<'a>, WireFault>
     // What is read is a reply, and a reply is read.
-    ensures found { IfOk result (λ r. IsCommitReply frame.now (commit_reply_of r)) }
+    ensures found { IfOk result (λ r. IsCommitReply frame.now (plain_commit_reply r)) }
     ensures only { (message : _) → IsCommitReply frame.now message
-        → IsOkAnd result (λ r. commit_reply_of r ≡ message) }
+        → IsOkAnd result (λ r. plain_commit_reply r ≡ message) }
     // Which fault it is.
-    ensures exact { Gives commit_reply_of result (commit_reply_reading frame.now) }
+    ensures exact { Gives plain_commit_reply result (commit_reply_reading frame.now) }
 {
     framed_commit_reply(frame)
 }

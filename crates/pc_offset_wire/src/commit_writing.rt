@@ -6,7 +6,7 @@ ghost use Rattle.pc_model.specs.Messages.{IsCommitRequest, IsCommitReply, IsComm
 ghost use Rattle.pc_model.specs.MessageReading.{commit_item_at};
 ghost use Rattle.pc_offset_wire.specs.declared.write_fault.WireWriteFault.TheVariants.{TooLong};
 ghost use Rattle.pc_offset_wire.specs.Items.{items_left};
-ghost use Rattle.pc_offset_wire.specs.Views.{commit_request_of};
+ghost use Rattle.pc_offset_wire.specs.Views.{plain_commit_request};
 ghost use Rattle.pc_offset_wire.specs.Writing.{Puts, AreStorable, commit_message, IsCommitBody, IsCommitReplyBody};
 ghost use Rattle.pc_offset_wire.specs.Replies.{item_count, answered_items, answered_topics, code_of, commit_reply_to};
 
@@ -25,12 +25,12 @@ pub struct CommitTopic<'a> {
 
 impl PutItem for CommitItem<'_> {
     ghost use Rattle.pc_model.specs.Messages.{CommitItem as PlainCommitItem, commit_item_spelling, IsCommitItem};
-    ghost use Rattle.pc_offset_wire.specs.Views.{commit_item_of};
+    ghost use Rattle.pc_offset_wire.specs.Views.{plain_commit_item};
     ghost use Rattle.pc_offset_wire.specs.Writing.{IsStorable};
 
     ghost Plain = { PlainCommitItem };
 
-    ghost plain = { commit_item_of };
+    ghost plain = { plain_commit_item };
 
     ghost spelled = { commit_item_spelling };
 
@@ -47,11 +47,11 @@ impl PutItem for CommitItem<'_> {
 
 impl PutItem for CommitTopic<'_> {
     ghost use Rattle.pc_model.specs.Messages.{Topic, CommitItem as PlainCommitItem, commit_item_spelling, topic_spelling, IsCommitItem, IsTopic};
-    ghost use Rattle.pc_offset_wire.specs.Writing.{AreStorable, commit_topic_of};
+    ghost use Rattle.pc_offset_wire.specs.Writing.{AreStorable, plain_commit_topic};
 
     ghost Plain = { Topic PlainCommitItem };
 
-    ghost plain = { commit_topic_of };
+    ghost plain = { plain_commit_topic };
 
     ghost spelled = { topic_spelling commit_item_spelling };
 
@@ -67,11 +67,11 @@ impl PutItem for CommitTopic<'_> {
 
 impl PutItem for CommitCode {
     ghost use Rattle.pc_model.specs.Messages.{CommitCode as PlainCommitCode, commit_code_spelling, IsCommitCode};
-    ghost use Rattle.pc_offset_wire.specs.Views.{commit_code_of};
+    ghost use Rattle.pc_offset_wire.specs.Views.{plain_commit_code};
 
     ghost Plain = { PlainCommitCode };
 
-    ghost plain = { commit_code_of };
+    ghost plain = { plain_commit_code };
 
     ghost spelled = { commit_code_spelling };
 
@@ -142,8 +142,9 @@ fn put_code_topics(
     request: &CommitRequest<'_>,
     codes: &[i16],
 ) -> Result<(), WireWriteFault>
-    requires { length codes.now ≡ item_count (commit_request_of request.now).topics }
-    ensures { let made = answered_topics code_of (commit_request_of request.now).topics codes.now in
+    requires { length codes.now ≡ item_count (plain_commit_request request.now).topics }
+    ensures { let made = answered_topics code_of (plain_commit_request request.now).topics
+        codes.now in
         Puts (topics_spelling commit_code_spelling made) (AreTopics IsCommitCode made)
         out.old.items out.new.items result }
 {
@@ -164,8 +165,8 @@ fn put_commit_reply(
     request: &CommitRequest<'_>,
     codes: &[i16],
 ) -> Result<(), WireWriteFault>
-    requires { length codes.now ≡ item_count (commit_request_of request.now).topics }
-    ensures { let message = commit_reply_to (commit_request_of request.now) codes.now in
+    requires { length codes.now ≡ item_count (plain_commit_request request.now).topics }
+    ensures { let message = commit_reply_to (plain_commit_request request.now) codes.now in
         Puts (commit_reply_body message) (IsCommitReplyBody message) out.old.items out.new.items
         result }
 {
@@ -216,13 +217,13 @@ pub fn write_commit_reply(
     request: &CommitRequest<'_>,
     codes: &[i16],
 ) -> Result<Vec<u8>, WireWriteFault>
-    requires { length codes.now ≡ item_count (commit_request_of request.now).topics }
+    requires { length codes.now ≡ item_count (plain_commit_request request.now).topics }
     ensures frame { IfOk result (λ frame. IsCommitReply frame.items
-        (commit_reply_to (commit_request_of request.now) codes.now)) }
+        (commit_reply_to (plain_commit_request request.now) codes.now)) }
 
     // Only what no frame spells is too long.
     ensures too_long { result ≡ Err TooLong → (frame : List ℕ) → IsCommitReply frame
-        (commit_reply_to (commit_request_of request.now) codes.now) → ⊥ }
+        (commit_reply_to (plain_commit_request request.now) codes.now) → ⊥ }
 {
     let mut body = Vec::new(alloc);
     put_commit_reply(&mut body, request, codes)?;

@@ -5,7 +5,7 @@ ghost use Rattle.pc_model.specs.Messages.{IsFetchRequest, IsFetchReply};
 ghost use Rattle.pc_model.specs.MessageReading.{topic_at, part_id_at, entry_at, fetch_request_at, fetch_reply_at, fetch_request_reading, fetch_reply_reading};
 ghost use Rattle.pc_offset_wire.specs.Reading.{Gives};
 ghost use Rattle.pc_offset_wire.specs.Items.{items_left};
-ghost use Rattle.pc_offset_wire.specs.Views.{fetch_entry_of, fetch_request_of, fetch_reply_of};
+ghost use Rattle.pc_offset_wire.specs.Views.{plain_fetch_entry, plain_fetch_request, plain_fetch_reply};
 
 use crate::items::{self, Items, WireItem};
 use crate::{fields, frame};
@@ -71,11 +71,11 @@ impl<'a> WireItem<'a> for (i32, FetchEntry<'a>) {
     ghost use Rattle.std.specs.Prelude.{ℤ};
     ghost use Rattle.pc_model.specs.Messages.{FetchEntry as PlainFetchEntry};
     ghost use Rattle.pc_model.specs.MessageReading.{entry_at};
-    ghost use Rattle.pc_offset_wire.specs.Views.{part_entry_of};
+    ghost use Rattle.pc_offset_wire.specs.Views.{plain_part_entry};
 
     ghost Plain = { ℤ × PlainFetchEntry };
 
-    ghost plain = { part_entry_of };
+    ghost plain = { plain_part_entry };
 
     ghost at = { entry_at };
 
@@ -97,25 +97,25 @@ impl<'a> WireItem<'a> for (i32, FetchEntry<'a>) {
 impl<'a> FetchRequest<'a> {
     /// The topics, in their order.
     pub fn topics(&self) -> PartTopics<'a>
-        ensures { items_left (topic_at part_id_at) result ≡ (fetch_request_of self.now).topics }
+        ensures { items_left (topic_at part_id_at) result ≡ (plain_fetch_request self.now).topics }
     {
-        Items::of(self.topics.bytes, self.topics.count)
+        self.topics.again()
     }
 }
 
 impl<'a> FetchReply<'a> {
     /// The topics, in their order.
     pub fn topics(&self) -> EntryTopics<'a>
-        ensures { items_left (topic_at entry_at) result ≡ (fetch_reply_of self.now).topics }
+        ensures { items_left (topic_at entry_at) result ≡ (plain_fetch_reply self.now).topics }
     {
-        Items::of(self.topics.bytes, self.topics.count)
+        self.topics.again()
     }
 }
 
 /// The request at the front of the bytes.
 #[tactic(auto, unfolding(pc_model::specs::MessageReading::fetch_request_at))]
 fn fetch_request(bytes: &[u8]) -> Result<(FetchRequest<'_>, &[u8]), WireFault>
-    ensures { Gives (λ x. (fetch_request_of x.0, x.1.now)) result (fetch_request_at bytes.now) }
+    ensures { Gives (λ x. (plain_fetch_request x.0, x.1.now)) result (fetch_request_at bytes.now) }
 {
     let (correlation, client, rest) = frame::header(OFFSET_FETCH, OFFSET_FETCH_VERSION, bytes)?;
     let (group, rest) = fields::string(rest)?;
@@ -134,7 +134,7 @@ fn fetch_request(bytes: &[u8]) -> Result<(FetchRequest<'_>, &[u8]), WireFault>
 /// The reply at the front of the bytes.
 #[tactic(auto, unfolding(pc_model::specs::MessageReading::fetch_reply_at))]
 fn fetch_reply(bytes: &[u8]) -> Result<(FetchReply<'_>, &[u8]), WireFault>
-    ensures { Gives (λ x. (fetch_reply_of x.0, x.1.now)) result (fetch_reply_at bytes.now) }
+    ensures { Gives (λ x. (plain_fetch_reply x.0, x.1.now)) result (fetch_reply_at bytes.now) }
 {
     let (correlation, rest) = fields::i32_at(bytes)?;
     let (topics, rest) = items::array(rest)?;
@@ -150,7 +150,7 @@ fn fetch_reply(bytes: &[u8]) -> Result<(FetchReply<'_>, &[u8]), WireFault>
 /// The request that a frame is, or its first fault.
 #[tactic(auto, unfolding(pc_model::specs::MessageReading::frame_reading))]
 fn framed_fetch_request(frame: &[u8]) -> Result<FetchRequest<'_>, WireFault>
-    ensures { Gives fetch_request_of result (fetch_request_reading frame.now) }
+    ensures { Gives plain_fetch_request result (fetch_request_reading frame.now) }
 {
     let body = frame::body(frame)?;
     let (request, rest) = fetch_request(body)?;
@@ -160,11 +160,11 @@ fn framed_fetch_request(frame: &[u8]) -> Result<FetchRequest<'_>, WireFault>
 /// Reads the fetch request that a frame is. What is refused has its first fault.
 pub fn read_fetch_request<'a>(frame: &'a [u8]) -> Result<FetchRequest<'a>, WireFault>
     // What is read is a request, and a request is read.
-    ensures found { IfOk result (λ r. IsFetchRequest frame.now (fetch_request_of r)) }
+    ensures found { IfOk result (λ r. IsFetchRequest frame.now (plain_fetch_request r)) }
     ensures only { (message : _) → IsFetchRequest frame.now message
-        → IsOkAnd result (λ r. fetch_request_of r ≡ message) }
+        → IsOkAnd result (λ r. plain_fetch_request r ≡ message) }
     // Which fault it is.
-    ensures exact { Gives fetch_request_of result (fetch_request_reading frame.now) }
+    ensures exact { Gives plain_fetch_request result (fetch_request_reading frame.now) }
 {
     framed_fetch_request(frame)
 }
@@ -172,7 +172,7 @@ pub fn read_fetch_request<'a>(frame: &'a [u8]) -> Result<FetchRequest<'a>, WireF
 /// The reply that a frame is, or its first fault.
 #[tactic(auto, unfolding(pc_model::specs::MessageReading::frame_reading))]
 fn framed_fetch_reply(frame: &[u8]) -> Result<FetchReply<'_>, WireFault>
-    ensures { Gives fetch_reply_of result (fetch_reply_reading frame.now) }
+    ensures { Gives plain_fetch_reply result (fetch_reply_reading frame.now) }
 {
     let body = frame::body(frame)?;
     let (reply, rest) = fetch_reply(body)?;
@@ -182,11 +182,11 @@ fn framed_fetch_reply(frame: &[u8]) -> Result<FetchReply<'_>, WireFault>
 /// Reads the fetch reply that a frame is. What is refused has its first fault.
 pub fn read_fetch_reply<'a>(frame: &'a [u8]) -> Result<FetchReply<'a>, WireFault>
     // What is read is a reply, and a reply is read.
-    ensures found { IfOk result (λ r. IsFetchReply frame.now (fetch_reply_of r)) }
+    ensures found { IfOk result (λ r. IsFetchReply frame.now (plain_fetch_reply r)) }
     ensures only { (message : _) → IsFetchReply frame.now message
-        → IsOkAnd result (λ r. fetch_reply_of r ≡ message) }
+        → IsOkAnd result (λ r. plain_fetch_reply r ≡ message) }
     // Which fault it is.
-    ensures exact { Gives fetch_reply_of result (fetch_reply_reading frame.now) }
+    ensures exact { Gives plain_fetch_reply result (fetch_reply_reading frame.now) }
 {
     framed_fetch_reply(frame)
 }

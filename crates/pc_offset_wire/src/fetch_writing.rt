@@ -6,7 +6,7 @@ ghost use Rattle.pc_model.specs.Messages.{IsFetchRequest, IsFetchReply, IsEntry,
 ghost use Rattle.pc_model.specs.MessageReading.{part_id_at};
 ghost use Rattle.pc_offset_wire.specs.declared.write_fault.WireWriteFault.TheVariants.{TooLong};
 ghost use Rattle.pc_offset_wire.specs.Items.{items_left};
-ghost use Rattle.pc_offset_wire.specs.Views.{fetch_request_of};
+ghost use Rattle.pc_offset_wire.specs.Views.{plain_fetch_request};
 ghost use Rattle.pc_offset_wire.specs.Writing.{Puts, fetch_message, IsFetchBody, IsFetchReplyBody};
 ghost use Rattle.pc_offset_wire.specs.Replies.{item_count, answered_items, answered_topics, entry_for, fetch_reply_to, IsAnswerable};
 
@@ -46,11 +46,11 @@ impl PutItem for i32 {
 impl PutItem for FetchTopic<'_> {
     ghost use Rattle.std.specs.Prelude.{ℤ};
     ghost use Rattle.pc_model.specs.Messages.{Topic, part_spelling, topic_spelling, IsPart, IsTopic};
-    ghost use Rattle.pc_offset_wire.specs.Writing.{fetch_topic_of};
+    ghost use Rattle.pc_offset_wire.specs.Writing.{plain_fetch_topic};
 
     ghost Plain = { Topic ℤ };
 
-    ghost plain = { fetch_topic_of };
+    ghost plain = { plain_fetch_topic };
 
     ghost spelled = { topic_spelling part_spelling };
 
@@ -124,9 +124,9 @@ fn put_entry_topics(
     request: &FetchRequest<'_>,
     entries: &[FetchEntry<'_>],
 ) -> Result<(), WireWriteFault>
-    requires count { length entries.now ≡ item_count (fetch_request_of request.now).topics }
+    requires count { length entries.now ≡ item_count (plain_fetch_request request.now).topics }
     requires positions { All IsAnswerable entries.now }
-    ensures { let made = answered_topics entry_for (fetch_request_of request.now).topics
+    ensures { let made = answered_topics entry_for (plain_fetch_request request.now).topics
         entries.now in
         Puts (topics_spelling entry_spelling made) (AreTopics IsEntry made) out.old.items
         out.new.items result }
@@ -148,9 +148,9 @@ fn put_fetch_reply(
     request: &FetchRequest<'_>,
     entries: &[FetchEntry<'_>],
 ) -> Result<(), WireWriteFault>
-    requires count { length entries.now ≡ item_count (fetch_request_of request.now).topics }
+    requires count { length entries.now ≡ item_count (plain_fetch_request request.now).topics }
     requires positions { All IsAnswerable entries.now }
-    ensures { let message = fetch_reply_to (fetch_request_of request.now)
+    ensures { let message = fetch_reply_to (plain_fetch_request request.now)
         entries.now in
         Puts (fetch_reply_body message) (IsFetchReplyBody message) out.old.items out.new.items
         result }
@@ -185,16 +185,16 @@ pub fn write_fetch_reply(
     request: &FetchRequest<'_>,
     entries: &[FetchEntry<'_>],
 ) -> Result<Vec<u8>, WireWriteFault>
-    requires count { length entries.now ≡ item_count (fetch_request_of request.now).topics }
+    requires count { length entries.now ≡ item_count (plain_fetch_request request.now).topics }
 
     // No position is below -1.
     requires positions { All IsAnswerable entries.now }
     ensures frame { IfOk result (λ frame. IsFetchReply frame.items
-        (fetch_reply_to (fetch_request_of request.now) entries.now)) }
+        (fetch_reply_to (plain_fetch_request request.now) entries.now)) }
 
     // Only what no frame spells is too long.
     ensures too_long { result ≡ Err TooLong → (frame : List ℕ) → IsFetchReply frame
-        (fetch_reply_to (fetch_request_of request.now) entries.now) → ⊥ }
+        (fetch_reply_to (plain_fetch_request request.now) entries.now) → ⊥ }
 {
     let mut body = Vec::new(alloc);
     put_fetch_reply(&mut body, request, entries)?;

@@ -10,7 +10,7 @@ use crate::fields;
 use pc_model::WireFault;
 use std::marker::PhantomData;
 
-/// An item of an array.
+/// What stands in an array, and how it is read.
 pub trait WireItem<'a>: Copy {
     /// The item without where it lies in memory.
     ghost Plain: { Type 0 };
@@ -25,23 +25,24 @@ pub trait WireItem<'a>: Copy {
         ensures { Gives (λ x. (plain x.0, x.1.now)) result (at bytes.now) };
 }
 
-/// The items of an array that are left.
+/// The items of an array that are left, read in place: an iterator over them. All of them were
+/// checked when the frame was read.
 #[derive(Clone, Copy, Debug)]
 pub struct Items<'a, T> {
-    pub(crate) bytes: &'a [u8],
-    pub(crate) count: u32,
+    bytes: &'a [u8],
+    count: u32,
     of: PhantomData<T>,
 }
 
 impl<'a, T> Items<'a, T> {
-    /// At most so many items, at the front of the bytes.
-    pub(crate) fn of(bytes: &'a [u8], count: u32) -> Items<'a, T>
+    /// The same items.
+    pub(crate) fn again(&self) -> Items<'a, T>
         ensures few { result.count < 2 ^ 32 }
-        ensures fields { result ≡ record { bytes = bytes.entry; count = count; of = record {} } }
+        ensures same { result ≡ self.now }
     {
         Items {
-            bytes,
-            count,
+            bytes: self.bytes,
+            count: self.count,
             of: PhantomData,
         }
     }
@@ -82,8 +83,7 @@ impl<'a, T: WireItem<'a>> Items<'a, T> {
     pub(crate) fn len(&self) -> usize
         ensures { result ≡ length (items_left T.at self.now) }
     {
-        let items: Items<'a, T> = Items::of(self.bytes, self.count);
-        items.count()
+        self.again().count()
     }
 }
 

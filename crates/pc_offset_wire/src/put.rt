@@ -2,9 +2,9 @@
 
 ghost use Rattle.std.specs.Prelude.{◌≡◌, ◌++◌, ◌<◌, ◌^◌, ℕ, List, All, pos, length, map, OnOk, IfOk, Ok, Err};
 ghost use Rattle.std.specs.Int.{w16, w32, w64};
+ghost use Rattle.std.specs.List.{flat_map, AllByRecursion};
 ghost use Rattle.std.specs.Option.{option_copied};
 ghost use Rattle.pc_model.specs.Messages.{int_spelling, string_spelling, nullable_spelling, array_spelling, header_spelling, IsString, IsNullable, IsArray, IsFrame};
-ghost use Rattle.std.specs.List.{flat_map, AllByRecursion};
 ghost use Rattle.pc_offset_wire.specs.declared.write_fault.WireWriteFault.TheVariants.{TooLong};
 ghost use Rattle.pc_offset_wire.specs.Writing.{Puts};
 
@@ -18,7 +18,7 @@ const STRING_MAX: usize = i16::MAX as usize;
 /// The greatest count of an array, and the greatest size of a frame.
 const COUNT_MAX: usize = i32::MAX as usize;
 
-/// What stands in an array.
+/// What is put into an array.
 pub(crate) trait PutItem {
     /// The item without where it lies in memory.
     ghost Plain: { Type 0 };

@@ -4,11 +4,11 @@ use Rattle.std.specs.List.{flat_map}
 use Rattle.pc_model.specs.Broker.{fetch_entry}
 use Rattle.pc_model.specs.MessageReading.{part_id_at}
 use Rattle.pc_offset_wire.specs.Items.{items_left}
-use Rattle.pc_offset_wire.specs.Views.{fetch_entry_of}
+use Rattle.pc_offset_wire.specs.Views.{plain_fetch_entry}
 use Rattle.pc_offset_store.proofs.entries.put_topic.Given as goal
 
 abbrev pub invariant-loop-part : goal.invariant-loop-part
-invariant-loop-part l = map fetch_entry_of l.entries.items
+invariant-loop-part l = map plain_fetch_entry l.entries.items
     ++ flat_map (λ part. fetch_entry l.broker l.group l.name part ∷ []) (items_left part_id_at l.part-iterator)
-    ≡ map fetch_entry_of l.initial.entries.items
+    ≡ map plain_fetch_entry l.initial.entries.items
     ++ flat_map (λ part. fetch_entry l.broker l.group l.name part ∷ []) (items_left part_id_at l.fn.parts)

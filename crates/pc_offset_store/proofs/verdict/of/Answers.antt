@@ -1,12 +1,12 @@
 -- What is decided of one more topic stands behind the others.
-use Rattle.pc_offset_wire.specs.Views.{commit_request_of}
+use Rattle.pc_offset_wire.specs.Views.{plain_commit_request}
 use Rattle.pc_offset_store.specs.Store.{accepted_of, codes_of}
 use Rattle.pc_offset_store.proofs.ListLemmas.{pieces-none, pieces-one}
 use Rattle.pc_offset_store.proofs.verdict.of.Goals as goal
 
 pub loop-name-preserved : goal.loop-name-preserved
 loop-name-preserved c =
-    let r = commit_request_of c.args.request.now in
+    let r = plain_commit_request c.args.request.now in
     record {
       codes = pieces-one (codes_of c.args.broker.now r) _ _ _ _ _ _ c.in-Some.ensures.steps
           c.in_ok-put_topic.ensures.codes_behind c.loop-name.invariant.codes;
@@ -16,7 +16,7 @@ loop-name-preserved c =
 
 pub returns : goal.returns
 returns c =
-    let r = commit_request_of c.args.request.now in
+    let r = plain_commit_request c.args.request.now in
     record {
       codes = pieces-none (codes_of c.args.broker.now r) _ _ _ c.in-None.ensures.steps.0 c.loop-name.invariant.codes;
       accepted = pieces-none (accepted_of c.args.broker.now r) _ _ _ c.in-None.ensures.steps.0 c.loop-name.invariant.accepted;

@@ -1,10 +1,10 @@
 use Rattle.std.proofs.Common.{arith}
-use Rattle.pc_offset_wire.specs.Views.{commit_request_of}
+use Rattle.pc_offset_wire.specs.Views.{plain_commit_request}
 use Rattle.pc_offset_wire.proofs.MessageLaws.{found_by, only_by, commit_request-read, commit_request-only}
 use Rattle.pc_offset_wire.proofs.commit.read_commit_request.Goals as goal
 
 pub returns-clause-found : goal.returns-clause-found
-returns-clause-found c = found_by commit_request_of c.framed_commit_request.result _ _ c.framed_commit_request.ensures (λ m e. commit_request-only c.args.frame.now m (λ i. omega (arith, c.type_inv.frame i)) e)
+returns-clause-found c = found_by plain_commit_request c.framed_commit_request.result _ _ c.framed_commit_request.ensures (λ m e. commit_request-only c.args.frame.now m (λ i. omega (arith, c.type_inv.frame i)) e)
 
 pub returns-clause-only : goal.returns-clause-only
-returns-clause-only c = λ m is. only_by commit_request_of c.framed_commit_request.result _ m c.framed_commit_request.ensures (commit_request-read c.args.frame.now m is)
+returns-clause-only c = λ m is. only_by plain_commit_request c.framed_commit_request.result _ m c.framed_commit_request.ensures (commit_request-read c.args.frame.now m is)

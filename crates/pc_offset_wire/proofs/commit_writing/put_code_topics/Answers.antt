@@ -1,7 +1,7 @@
 use Rattle.std.proofs.Common.{◌∙◌, ap, length, drop}
 use Rattle.std.proofs.lemmas.Result.{err_from_is_err_and}
 use Rattle.pc_model.specs.Messages.{commit_code_spelling, topic_spelling, IsCommitCode, IsTopic}
-use Rattle.pc_offset_wire.specs.Views.{commit_request_of}
+use Rattle.pc_offset_wire.specs.Views.{plain_commit_request}
 use Rattle.pc_offset_wire.specs.Replies.{answered_topics, code_of}
 use Rattle.pc_offset_wire.proofs.ReplyLemmas.{answered-no_topics, length-answered_topics}
 use Rattle.pc_offset_wire.proofs.WritingLemmas.{Leaves-none, array-done, array-uncounted}
@@ -10,7 +10,7 @@ use Rattle.pc_offset_wire.proofs.commit_writing.put_code_topics.Goals as goal
 pub returns-in_err-put_count : goal.returns-in_err-put_count
 returns-in_err-put_count c =
     let p = err_from_is_err_and c.from_residual.result c.from_residual.ensures.1 in
-    let topics = (commit_request_of c.args.request.now).topics in
+    let topics = (plain_commit_request c.args.request.now).topics in
     let made = answered_topics code_of topics c.args.codes.now in
     let same = c.len.ensures ∙ ap length c.topics.ensures ∙ length-answered_topics code_of topics c.args.codes.now in
     let now = c.put_count.new.out.items in
@@ -18,7 +18,7 @@ returns-in_err-put_count c =
 
 pub returns : goal.returns
 returns c =
-    let topics = (commit_request_of c.args.request.now).topics in
+    let topics = (plain_commit_request c.args.request.now).topics in
     let made = answered_topics code_of topics c.args.codes.now in
     let same = c.len.ensures ∙ ap length c.topics.ensures ∙ length-answered_topics code_of topics c.args.codes.now in
     let none = answered-no_topics code_of _ (drop c.loop-name.done c.args.codes.now) c.in-None.ensures.steps.0 in

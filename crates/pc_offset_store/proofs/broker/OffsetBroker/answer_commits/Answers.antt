@@ -2,7 +2,7 @@
 use Rattle.std.proofs.Common.{Ok, Err}
 use Rattle.std.proofs.lemmas.Result.{err_from_is_err_and}
 use Rattle.pc_model.specs.Broker.{Commits}
-use Rattle.pc_offset_wire.specs.Views.{commit_request_of}
+use Rattle.pc_offset_wire.specs.Views.{plain_commit_request}
 use Rattle.pc_offset_store.proofs.BoundLemmas.{commit-short}
 use Rattle.pc_offset_store.proofs.FrameLemmas.{answered-reply, answered-unread, on_ok, commits-reading}
 use Rattle.pc_offset_store.proofs.broker.OffsetBroker.answer_commits.Goals as goal
@@ -27,7 +27,7 @@ returns-in_err-request-clause-answer c =
 
 pub returns-clause-answer : goal.returns-clause-answer
 returns-clause-answer c =
-    let r = commit_request_of c.in_ok-request.request in
+    let r = plain_commit_request c.in_ok-request.request in
     answered-reply (λ v. v.items) c.committed.result (Commits r) c.args.frame.now c.args.self.now c.committed.new.self
     (commits-reading c.args.frame.now (Ok r) c.requires c.in_ok-request.ensures.exact)
     (commit-short c.args.self.now r c.args.frame.now c.in_ok-request.ensures.found) c.committed.ensures.reply

@@ -2,7 +2,7 @@
 use Rattle.std.proofs.Common.{Ok, Err}
 use Rattle.std.proofs.lemmas.Result.{err_from_is_err_and}
 use Rattle.pc_model.specs.Broker.{Fetches}
-use Rattle.pc_offset_wire.specs.Views.{fetch_request_of}
+use Rattle.pc_offset_wire.specs.Views.{plain_fetch_request}
 use Rattle.pc_offset_store.proofs.BoundLemmas.{fetch-short}
 use Rattle.pc_offset_store.proofs.FrameLemmas.{answered-reply, answered-unread, on_ok, fetches-reading}
 use Rattle.pc_offset_store.proofs.broker.OffsetBroker.answer_fetches.Goals as goal
@@ -24,7 +24,7 @@ returns-in_err-request-clause-answer c =
 
 pub returns-clause-answer : goal.returns-clause-answer
 returns-clause-answer c =
-    let r = fetch_request_of c.in_ok-request.request in
+    let r = plain_fetch_request c.in_ok-request.request in
     answered-reply (λ v. v.items) c.fetched.result (Fetches r) c.args.frame.now c.args.self.now c.args.self.now
     (fetches-reading c.args.frame.now (Ok r) c.requires c.in_ok-request.ensures.exact)
     (fetch-short c.args.self.now r c.args.frame.now c.fetched.ensures.storable c.in_ok-request.ensures.found) c.fetched.ensures.reply

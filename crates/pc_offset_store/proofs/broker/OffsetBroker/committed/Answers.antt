@@ -6,7 +6,7 @@ use Rattle.std.specs.String.{string_bytes}
 use Rattle.std.proofs.lemmas.Result.{err_from_is_err_and}
 use Rattle.pc_model.specs.Broker.{Broker, Commits, Stored, item_code}
 use Rattle.pc_world.specs.World.{AreStorable, IsStorable}
-use Rattle.pc_offset_wire.specs.Views.{commit_request_of}
+use Rattle.pc_offset_wire.specs.Views.{plain_commit_request}
 use Rattle.pc_offset_store.specs.Store.{membership_of, put_each, stored_of}
 use Rattle.pc_offset_store.specs.declared.commits.GroupCommit.{GroupCommit}
 use Rattle.pc_offset_store.proofs.AcceptedLemmas.{accepted-hold}
@@ -21,13 +21,13 @@ Holds s = IsStorable s.commit
 
 pub write_commit_reply-requires : goal.write_commit_reply-requires
 write_commit_reply-requires c =
-    let r = commit_request_of c.args.request.now in
+    let r = plain_commit_request c.args.request.now in
     ap length (c.as_slice.ensures.value ∙ c.in_ok-codes.ensures.codes) ∙ length-answers (item_code c.args.self.now r) r.topics
 
 pub returns-in_err-reply-clause-reply : goal.returns-in_err-reply-clause-reply
 returns-in_err-reply-clause-reply c =
     let p = err_from_is_err_and c.from_residual-in_err-reply.result c.from_residual-in_err-reply.ensures.1 in
-    let r = commit_request_of c.args.request.now in
+    let r = plain_commit_request c.args.request.now in
     let b = c.args.self.now in
     let are = c.as_slice.ensures.value ∙ c.in_ok-codes.ensures.codes in
     rw (p.1, p.2) (refused (λ v. v.items) (Commits r) b c.in_err-reply.field-0.0
@@ -36,7 +36,7 @@ returns-in_err-reply-clause-reply c =
 pub invariant_of-self-2 : goal.invariant_of-self-2
 invariant_of-self-2 c =
     let b = c.args.self.now in
-    let r = commit_request_of c.args.request.now in
+    let r = plain_commit_request c.args.request.now in
     let before = map stored_of c.self.inside.commits.items in
     let put = c.put_all.ensures
     ∙ ap (λ (items : List GroupCommit). put_each (map stored_of c.in_ok-codes.field-0.accepted.items) (map stored_of items)) c.reserve.ensures.items in
@@ -47,7 +47,7 @@ invariant_of-self-2 c =
 pub returns-clause-reply : goal.returns-clause-reply
 returns-clause-reply c =
     let b = c.args.self.now in
-    let r = commit_request_of c.args.request.now in
+    let r = plain_commit_request c.args.request.now in
     let inside = c.self.inside in
     let accepted = map stored_of c.in_ok-codes.field-0.accepted.items in
     let put = c.put_all.ensures
