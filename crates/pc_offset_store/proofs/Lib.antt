@@ -9,3 +9,4 @@ pub mod LookupLemmas
 pub mod PositionLemmas
 pub mod PutLemmas
 pub mod StepLemmas
+pub mod StoreLaw

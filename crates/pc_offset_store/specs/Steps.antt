@@ -1,6 +1,6 @@
 -- How a broker answers a request, and a frame: by the step, and a fault changes nothing.
-use Rattle.std.specs.Prelude.{◌≡◌, ◌<◌, ℕ, List, Result, Ok, Err, length}
-use Rattle.pc_model.specs.Broker.{Broker, Request, Unread, TooLong as LongReply, broker_step, step_of}
+use Rattle.std.specs.Prelude.{◌≡◌, ◌<◌, ℕ, List, [], ◌∷◌, Result, Ok, Err, length}
+use Rattle.pc_model.specs.Broker.{Broker, Refusal, Request, Unread, TooLong as LongReply, broker_step, step_of}
 use Rattle.pc_world.specs.declared.link.TheConstants.{FRAME_BYTES_MAX}
 use Rattle.pc_offset_store.specs.declared.fault.BrokerFault.{BrokerFault}
 use Rattle.pc_offset_store.specs.declared.fault.BrokerFault.TheVariants.{NoMemory, TooLong, UnknownPart, Wire}
@@ -25,3 +25,21 @@ IsAnswered (Err TooLong) view frame old new =
     (broker_step old frame ≡ Err LongReply) × (FRAME_BYTES_MAX < length frame) × (new ≡ old)
 IsAnswered (Err NoMemory) view frame old new = new ≡ old
 IsAnswered (Err UnknownPart) view frame old new = ⊥
+
+-- ---- many frames
+
+-- the frames were answered with these replies, one after the other
+abbrev pub AreAnswered : List (List ℕ × List ℕ) → Broker → Broker → Type 0
+AreAnswered [] old new = new ≡ old
+AreAnswered (x ∷ xs) old new =
+    (between : Broker) × (broker_step old x.0 ≡ Ok (x.1, between)) × AreAnswered xs between new
+
+-- the broker after a step, which is as before where there is none
+abbrev pub after_step : Result (List ℕ × Broker) Refusal → Broker → Broker
+after_step (Ok step) b = step.1
+after_step (Err refusal) b = b
+
+-- the steps of some frames, one after the other
+abbrev pub after_frames : List (List ℕ) → Broker → Broker
+after_frames [] b = b
+after_frames (frame ∷ frames) b = after_frames frames (after_step (broker_step b frame) b)

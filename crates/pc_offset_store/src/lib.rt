@@ -12,3 +12,6 @@ mod verdict;
 pub use broker::OffsetBroker;
 pub use fault::BrokerFault;
 pub use members::MemberId;
+
+#[cfg(test)]
+mod tests;
