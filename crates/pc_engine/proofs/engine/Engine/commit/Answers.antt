@@ -147,14 +147,17 @@ returns-in-Ok-clause-effect g c =
     (commit_step v.given v.journal.events c.args.part x) v.journal.events
     c.push.new.self.events) c.self.view_is (
       Ok tt,
-      record { cause = c.in-Ok.ensures.cause; gives = λ is. commit-gives c.self.inside.setup.now c.self.inside.journal.events
-          (g.L.Link.is_told c.self.inside.client.link) (kept_for (g.L.Link.store c.self.inside.client.link))
-          c.self.inside.parts.items c.self.invariant c.args.part inner
-          (kept_for (g.L.Link.store c.commit.new.self.link)) (g.L.Link.is_told c.commit.new.self.link)
-          c.index.result.now c.index.result.now c.empty.result c.reserve.new.self.events
-          c.push.new.self.events
-          c.commit.ensures.told c.index.ensures c.empty.ensures c.in_ok-reserve.ensures.events
-          _ _ (Ok tt) (c.in-Ok.ensures.gives is) },
+      record {
+        cause = c.in-Ok.ensures.cause;
+        gives = λ is. commit-gives c.self.inside.setup.now c.self.inside.journal.events
+            (g.L.Link.is_told c.self.inside.client.link) (kept_for (g.L.Link.store c.self.inside.client.link))
+            c.self.inside.parts.items c.self.invariant c.args.part inner
+            (kept_for (g.L.Link.store c.commit.new.self.link)) (g.L.Link.is_told c.commit.new.self.link)
+            c.index.result.now c.index.result.now c.empty.result c.reserve.new.self.events
+            c.push.new.self.events
+            c.commit.ensures.told c.index.ensures c.empty.ensures c.in_ok-reserve.ensures.events
+            _ _ (Ok tt) (c.in-Ok.ensures.gives is);
+      },
       committed-does c.self.inside.setup.now c.self.inside.journal.events
           (g.L.Link.is_told c.self.inside.client.link) (kept_for (g.L.Link.store c.self.inside.client.link))
           c.self.inside.parts.items c.self.invariant c.args.part inner
@@ -195,21 +198,24 @@ returns-in-Err g c =
     c.self.inside.journal.events c.args.part ≡ None = rw (← c.self.view_is) at none in
     record {
       effect = subst (λ v. (x : Result (Unit {0}) ClientFault) × IsStored (g.L.Link.is_told v.link)
-    (g.L.Link.store v.link) (g.L.Link.store c.commit.new.self.link) (g.L.Link.faults v.link)
-    (g.L.Link.faults c.commit.new.self.link) c.args.part
-    (commit_of v.given v.journal.events c.args.part).commit x
+          (g.L.Link.store v.link) (g.L.Link.store c.commit.new.self.link) (g.L.Link.faults v.link)
+          (g.L.Link.faults c.commit.new.self.link) c.args.part
+          (commit_of v.given v.journal.events c.args.part).commit x
           × Does {A = Committed} (Err (Client c.in-Err.fault))
           (commit_step v.given v.journal.events c.args.part x) v.journal.events
           c.push-in-Err.new.self.events) c.self.view_is (
             Err c.in-Err.fault,
-            record { cause = c.in-Err.ensures.cause; gives = λ is. commit-gives c.self.inside.setup.now c.self.inside.journal.events
-                (g.L.Link.is_told c.self.inside.client.link) (kept_for (g.L.Link.store c.self.inside.client.link))
-                c.self.inside.parts.items c.self.invariant c.args.part inner
-                (kept_for (g.L.Link.store c.commit.new.self.link)) (g.L.Link.is_told c.commit.new.self.link)
-                c.index.result.now c.index.result.now c.empty.result c.reserve.new.self.events
-                c.push-in-Err.new.self.events
-                c.commit.ensures.told c.index.ensures c.empty.ensures c.in_ok-reserve.ensures.events
-                _ _ (Err c.in-Err.fault) (c.in-Err.ensures.gives is) },
+            record {
+              cause = c.in-Err.ensures.cause;
+              gives = λ is. commit-gives c.self.inside.setup.now c.self.inside.journal.events
+                  (g.L.Link.is_told c.self.inside.client.link) (kept_for (g.L.Link.store c.self.inside.client.link))
+                  c.self.inside.parts.items c.self.invariant c.args.part inner
+                  (kept_for (g.L.Link.store c.commit.new.self.link)) (g.L.Link.is_told c.commit.new.self.link)
+                  c.index.result.now c.index.result.now c.empty.result c.reserve.new.self.events
+                  c.push-in-Err.new.self.events
+                  c.commit.ensures.told c.index.ensures c.empty.ensures c.in_ok-reserve.ensures.events
+                  _ _ (Err c.in-Err.fault) (c.in-Err.ensures.gives is);
+            },
             failed-does c.self.inside.setup.now c.self.inside.journal.events
                 (g.L.Link.is_told c.self.inside.client.link) (kept_for (g.L.Link.store c.self.inside.client.link))
                 c.self.inside.parts.items c.self.invariant c.args.part inner
