@@ -1,3 +1,4 @@
+mod LogFaultLemmas
 mod WrittenLemmas
 mod ReadingLemmas
 mod PlayLemmas

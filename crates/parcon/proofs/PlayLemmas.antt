@@ -1,9 +1,8 @@
 -- What a line's call does to a play, and what lines do one after the other.
-use Rattle.std.proofs.Common.{◌≡◌, ◌≤◌, ◌<◌, ◌⊎◌, inl, inr, ℕ, zero, suc, ◌+◌, Bool, true, false, List, [], ◌∷◌, ◌++◌, length, take, get_or, Some, Result, Ok, Err, refl, ap, sym, subst, ◌∙◌, arith, add-one, length-append}
+use Rattle.std.proofs.Common.{◌≡◌, ◌≤◌, ◌<◌, inl, ℕ, zero, suc, ◌+◌, Bool, true, false, List, [], ◌∷◌, ◌++◌, length, take, get_or, Result, Ok, Err, refl, ap, sym, subst, ◌∙◌, arith, add-one, length-append}
 use Rattle.std.specs.Prelude.{IfOk, IsTrue, is_none}
 use Rattle.std.specs.List.{AllByRecursion}
 use Rattle.std.proofs.Math.Bool.{Bool-set}
-use Rattle.std.proofs.lemmas.Bool.{cases_Bool}
 use Rattle.std.proofs.lemmas.List.{append-nil}
 use Rattle.std.proofs.Math.Seq.{take-suc}
 use Rattle.pc_laws.proofs.Lists.{true-not-false}
@@ -14,11 +13,9 @@ use Rattle.pc_model.specs.declared.setup.Setup.{Setup}
 use Rattle.pc_model.specs.Defaults.{default_settings, settings_of}
 use Rattle.pc_model.specs.Given.{Given, has_log, no_commit}
 use Rattle.pc_model.specs.Ranges.{settings_fault}
-use Rattle.pc_model.specs.Jobs.{has_ended}
 use Rattle.pc_model.specs.Lawful.{IsLegal}
 use Rattle.pc_model.specs.Stored.{may_store}
 use Rattle.pc_laws.specs.Lists.{In}
-use Rattle.pc_world.specs.World.{HasRisen}
 use Rattle.pc_script.specs.declared.play.PlayAct.{PlayAct}
 use Rattle.pc_script.specs.declared.play.PlayAct.TheVariants.{Assign, Commit}
 use Rattle.pc_script.specs.declared.play.PlayLine.{PlayLine}
@@ -28,9 +25,8 @@ use Rattle.pc_offset_client.specs.declared.fault.ClientFault.TheVariants.{LinkFa
 use Rattle.pc_offset_client.specs.Client.{kept_for}
 use Rattle.pc_model.specs.Broker.{Broker}
 use Rattle.pc_engine.specs.declared.fault.EngineFault.{EngineFault}
-use Rattle.pc_engine.specs.declared.fault.EngineFault.TheVariants.{Client, Closed, UnknownPart, NoMemory}
+use Rattle.pc_engine.specs.declared.fault.EngineFault.TheVariants.{NoMemory}
 use Rattle.pc_engine.specs.declared.engine.Committed.{Committed}
-use Rattle.pc_engine.specs.Fault.{engine_fault_of}
 use Rattle.pc_engine.specs.Effect.{Step, Does, IsFetched, IsStored, StoresOnly, assign_step, commit_step}
 use Rattle.pc_engine.proofs.EngineLemmas.{stores_only-same}
 use Rattle.parcon.specs.declared.remark.Remark.{Remark}

@@ -1,17 +1,12 @@
 -- From the answers of the reads to the lines that are played.
-use Rattle.std.proofs.Common.{◌≡◌, ◌≤◌, ◌==◌, ◌⊎◌, inl, inr, ℕ, true, false, eq-eqb, List, [], ◌∷◌, ◌++◌, length, Option, Some, Result, Ok, Err, refl, ap, sym, subst, ◌∙◌, arith}
-use Rattle.std.proofs.lemmas.Bool.{cases_lt, eqb-true}
-use Rattle.pc_laws.proofs.Lists.{true-not-false}
+use Rattle.std.proofs.Common.{◌≡◌, ◌≤◌, ◌⊎◌, inl, inr, ℕ, List, [], ◌++◌, length, Option, Some, Result, Ok, Err, refl, ap, sym, subst, ◌∙◌, arith}
+use Rattle.std.proofs.lemmas.Bool.{cases_lt}
 use Rattle.pc_world.specs.World.{HasRisen, AppendsFile}
 use Rattle.pc_script.specs.declared.play.PlayLine.{PlayLine}
-use Rattle.pc_script.specs.Arguments.{Reads}
-use Rattle.pc_script.specs.PlayScript.{script_of}
-use Rattle.pc_script.specs.declared.fault.ScriptReadFault.{ScriptReadFault}
-use Rattle.pc_script.specs.declared.fault.ScriptReadFault.TheVariants as read
 use Rattle.parcon.specs.declared.status.Status.{Status}
-use Rattle.parcon.specs.declared.status.Status.TheVariants.{NoMemory, NotBuilt}
+use Rattle.parcon.specs.declared.status.Status.TheVariants.{NoMemory}
 use Rattle.parcon.specs.Command.{PlayFiles, command_of}
-use Rattle.parcon.specs.Reading.{◌>>=◌, ReadAnswer, IsAnswer, AreAnswers, IsFromFile, IsFromFiles, answered, lines_to_play, lines_of_files, lines_behind, lines_or_status, script_status}
+use Rattle.parcon.specs.Reading.{◌>>=◌, ReadAnswer, IsAnswer, AreAnswers, IsFromFile, IsFromFiles, answered, lines_to_play, lines_of_files, lines_behind}
 use Rattle.parcon.specs.Reading.ReadAnswer.{Bytes, Failed, TooLong}
 
 -- ---- counts of faults
@@ -108,19 +103,19 @@ module _ (words : List (List ℕ)) (told told' : List ℕ → Option (List ℕ))
     script = script.answer;
     answers = are-answers script.answer script.is_answer;
     lines = lines-are script.answer ∙ ap
-        (λ (r : Result (List ℕ) Status). r >>= λ t. lines_behind bytes t) script.read;
+        (λ (r : Result (List ℕ) Status). r >>= λ t. lines_behind files.log bytes t) script.read;
   }
 
   -- both were read
   pub both-read : (text : List ℕ) → IsFromFile files.script (told' files.script) f1 f2 (Ok text)
-      → (got : Result (List PlayLine) Status) → lines_behind bytes text ≡ got
+      → (got : Result (List PlayLine) Status) → lines_behind files.log bytes text ≡ got
       → IsFromFiles words told f0 f2 got
   both-read text script got is = record {
     log = log.answer;
     script = script.answer;
     answers = are-answers script.answer script.is_answer;
     lines = lines-are script.answer ∙ ap
-        (λ (r : Result (List ℕ) Status). r >>= λ t. lines_behind bytes t) script.read ∙ is;
+        (λ (r : Result (List ℕ) Status). r >>= λ t. lines_behind files.log bytes t) script.read ∙ is;
   }
 
 -- ---- what the steps on the way answered
@@ -147,33 +142,10 @@ unread words told f f' r s was (inl is) others =
 unread words told f f' r s was (inr b) others =
     inr (subst (IsFromFiles words told f f') (sym was) (others b))
 
--- a log with bytes ends the play
-pub behind-log : (log text : List ℕ) → (log ≡ [] → ⊥) → lines_behind log text ≡ Err (NotBuilt 0)
-behind-log [] text some = absurd (some refl)
-behind-log (b ∷ log) text some = refl
-
--- a script that does not read ends the play
-pub script-unreadable : (text : List ℕ) (fault : ScriptReadFault) (s : Status)
-    (lines : Result (List PlayLine) ScriptReadFault)
-    → Reads {X = List PlayLine} (λ l. l) (Err fault) lines → s ≡ script_status fault
-    → (s ≡ NoMemory) ⊎ (lines_or_status lines ≡ Err s)
-script-unreadable text read.NoMemory s lines is was = inl was
-script-unreadable text read.TooManyLines s lines is was =
-    inr (ap lines_or_status is ∙ ap (λ (x : Status). Err x) (sym was))
-script-unreadable text (read.Bad fault) s lines is was =
-    inr (ap lines_or_status is ∙ ap (λ (x : Status). Err x) (sym was))
-
--- an empty log lets the script decide
-pub behind-empty : (log text text' : List ℕ) → log ≡ [] → text' ≡ text
-    → lines_behind log text ≡ lines_or_status (script_of text')
-behind-empty log text text' empty same = ap (λ (l : List ℕ). lines_behind l text) empty
-    ∙ ap (λ (t : List ℕ). lines_or_status (script_of t)) (sym same)
-
-pub none-items : (n : ℕ) (xs : List ℕ) → n ≡ length xs → n == 0 ≡ true → xs ≡ []
-none-items n [] len is = refl
-none-items n (x ∷ xs) len is =
-    let zero_is : n ≡ 0 = eqb-true n 0 is in absurd (omega (arith, len, zero_is))
-
-pub some-items : (n : ℕ) (xs : List ℕ) → n ≡ length xs → false ≡ (n == 0) → xs ≡ [] → ⊥
-some-items n xs len is empty =
-    true-not-false (n == 0) (eq-eqb n 0 (len ∙ ap length empty)) (sym is)
+-- what was decided of the lent bytes is decided of the bytes
+pub behind-same : (name log log' text text' : List ℕ) (r : Result (List PlayLine) Status)
+    → log' ≡ log → text' ≡ text → r ≡ lines_behind name log' text'
+    → lines_behind name log text ≡ r
+behind-same name log log' text text' r same_log same is =
+    ap (λ (l : List ℕ). lines_behind name l text) (sym same_log)
+    ∙ ap (λ (t : List ℕ). lines_behind name log' t) (sym same) ∙ sym is

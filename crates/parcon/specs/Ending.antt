@@ -17,6 +17,7 @@ use Rattle.parcon.specs.declared.status.Status.{Status}
 use Rattle.parcon.specs.declared.status.Status.TheVariants as status
 use Rattle.parcon.specs.declared.status.LimitKind.{LimitKind}
 use Rattle.parcon.specs.declared.status.LimitKind.TheVariants.{FileBytes, ScriptLines}
+use Rattle.parcon.specs.LogFault.{log_line, fault_words}
 use Rattle.parcon.specs.Reading.{ReadAnswer, lines_to_play}
 use Rattle.parcon.specs.Play.{Asked, Play, start, played}
 
@@ -90,6 +91,7 @@ abbrev pub status_number : Status → ℕ
 status_number status.Whole = 0
 status_number status.Usage = 1
 status_number (status.ReadFault name) = 2
+status_number (status.BadLog name place fault) = 4
 status_number (status.BadScript line kind) = 5
 status_number status.SinkFault = 7
 status_number (status.Limit which number) = 9
@@ -114,6 +116,7 @@ fault_line status.Whole = []
 fault_line status.Usage = line_of_words (codes "fault" ∷ codes "usage" ∷ [])
 fault_line (status.ReadFault name) =
     line_of_words (codes "fault" ∷ codes "read" ∷ marked name ∷ [])
+fault_line (status.BadLog name place fault) = log_line name place (fault_words fault)
 fault_line (status.BadScript line kind) =
     line_of_words (codes "fault" ∷ codes "script" ∷ decimal line ∷ kind_text kind ∷ [])
 fault_line status.SinkFault = []

@@ -1,7 +1,6 @@
 -- The promise of the program: how a play ends, whatever its words, its files, its link and its sink.
-use Rattle.std.specs.Prelude.{ℕ, ◌≡◌, ◌⊎◌, Bool, true, false, List, [], Option, refl, IsTrue, is_none}
+use Rattle.std.specs.Prelude.{ℕ, ◌≡◌, ◌⊎◌, Bool, true, List, [], Option, refl, IsTrue, is_none}
 use Rattle.std.specs.List.{AllByRecursion}
-use Rattle.pc_model.specs.declared.commit.Commit.{Commit}
 use Rattle.pc_model.specs.declared.event.Event.{Event}
 use Rattle.pc_model.specs.declared.setup.Setup.{Setup}
 use Rattle.pc_model.specs.Defaults.{default_settings}

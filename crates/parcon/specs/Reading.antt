@@ -7,6 +7,9 @@ use Rattle.pc_script.specs.declared.play.PlayLine.{PlayLine}
 use Rattle.pc_script.specs.declared.fault.ScriptReadFault.{ScriptReadFault}
 use Rattle.pc_script.specs.declared.fault.ScriptReadFault.TheVariants.{Bad, TooManyLines, NoMemory}
 use Rattle.pc_script.specs.PlayScript.{script_of}
+use Rattle.pc_batch.specs.Batch.{Placed}
+use Rattle.pc_cursor.specs.declared.fault.LogFault.{LogFault}
+use Rattle.pc_cursor.specs.Log.{all_batches}
 use Rattle.parcon.specs.declared.status.Status.{Status}
 use Rattle.parcon.specs.declared.status.Status.TheVariants as status
 use Rattle.parcon.specs.declared.status.LimitKind.TheVariants.{FileBytes, ScriptLines}
@@ -59,25 +62,39 @@ abbrev pub built_lines : List PlayLine → Option ℕ → Result (List PlayLine)
 built_lines lines None = Ok lines
 built_lines lines (Some line) = Err (status.NotBuilt line)
 
+-- the lines of a script, unless it does not read
 abbrev pub lines_or_status : Result (List PlayLine) ScriptReadFault → Result (List PlayLine) Status
-lines_or_status (Ok lines) = built_lines lines (first_unbuilt lines)
+lines_or_status (Ok lines) = Ok lines
 lines_or_status (Err fault) = Err (script_status fault)
 
--- the script behind an empty log
-abbrev pub lines_behind : List ℕ → List ℕ → Result (List PlayLine) Status
-lines_behind [] script = lines_or_status (script_of script)
-lines_behind (b ∷ log) script = Err (status.NotBuilt 0)
+-- the batches of a file's log, unless it does not read
+abbrev pub log_or_status : List ℕ → Result (List Placed) LogFault → Result (List Placed) Status
+log_or_status name (Ok batches) = Ok batches
+log_or_status name (Err fault) = Err (status.BadLog name fault.place fault.fault)
+
+-- lines that are played over an empty log, unless one of them is not built
+abbrev pub built_over : List ℕ → List PlayLine → Result (List PlayLine) Status
+built_over [] lines = built_lines lines (first_unbuilt lines)
+built_over (b ∷ log) lines = Err (status.NotBuilt 0)
+
+infixl 10 ◌>>=◌
+abbrev pub ◌>>=◌ : {X Y : Type 0} → Result X Status → (X → Result Y Status) → Result Y Status
+(Ok x) >>= f = f x
+(Err s) >>= f = Err s
+
+-- the lines of a script behind a file's log
+abbrev pub lines_behind : List ℕ → List ℕ → List ℕ → Result (List PlayLine) Status
+lines_behind name log script =
+    do
+      batches ← log_or_status name (all_batches log)
+      lines ← lines_or_status (script_of script)
+      built_over log lines
 
 -- the bytes of a read, or the status that a read without bytes ends with
 abbrev pub answered : List ℕ → ReadAnswer → Result (List ℕ) Status
 answered name (Bytes bytes) = Ok bytes
 answered name Failed = Err (status.ReadFault name)
 answered name TooLong = Err (status.Limit FileBytes 268_435_456)
-
-infixl 10 ◌>>=◌
-abbrev pub ◌>>=◌ : {X Y : Type 0} → Result X Status → (X → Result Y Status) → Result Y Status
-(Ok x) >>= f = f x
-(Err s) >>= f = Err s
 
 -- the lines that a play is to go through, or the status that ends it before: of the words, of the
 -- log's read, of the script's read, of the log, of the script, the first that applies
@@ -88,7 +105,7 @@ lines_of_files (Some files) log script =
     do
       l ← answered files.log log
       s ← answered files.script script
-      lines_behind l s
+      lines_behind files.log l s
 
 abbrev pub lines_to_play : List (List ℕ) → ReadAnswer → ReadAnswer → Result (List PlayLine) Status
 lines_to_play words log script = lines_of_files (command_of words) log script

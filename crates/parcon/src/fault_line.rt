@@ -4,6 +4,7 @@ ghost use Rattle.std.specs.Prelude.{◌≡◌, ◌++◌, OnOk, OnErr};
 ghost use Rattle.parcon.specs.Ending.{fault_line, limit_name};
 ghost use Rattle.parcon.specs.declared.status.Status.TheVariants.{BadScript};
 
+use crate::log_fault::{LogPlace, put_log_fault};
 use crate::status::{LimitKind, Status};
 use pc_print::Word::{Marked, Name, Number};
 use pc_print::put_line;
@@ -25,6 +26,17 @@ pub(crate) fn put_fault(alloc: Global, out: &mut Vec<u8>, status: &Status) -> Re
             b"fault",
             &[Name(b"read"), Marked(name.as_str().as_bytes())],
         ),
+        Status::BadLog { name, place, fault } => {
+            let name = name.as_str().as_bytes();
+            put_log_fault(
+                out,
+                LogPlace {
+                    name,
+                    place: *place,
+                },
+                *fault,
+            )
+        }
         Status::BadScript { line, kind } => put_bad_line(alloc, out, *line, *kind),
         Status::Limit { which, number } => put_line(
             out,

@@ -5,6 +5,7 @@
 
 mod command;
 mod fault_line;
+mod log_fault;
 mod offline;
 mod output;
 mod play;

@@ -2,13 +2,15 @@
 
 ghost use Rattle.std.specs.Prelude.{◌≡◌, ◌≤◌, ◌⊎◌, List, ℕ, Err, map, find, option_map, string_bytes};
 ghost use Rattle.std.specs.Result.{result_map_both};
+ghost use Rattle.pc_cursor.specs.Log.{all_batches};
 ghost use Rattle.pc_script.specs.PlayScript.{script_of};
 ghost use Rattle.parcon.specs.Command.{command_of};
-ghost use Rattle.parcon.specs.Reading.{IsFromFile, IsFromFiles, built_lines, first_unbuilt, is_built};
+ghost use Rattle.parcon.specs.Reading.{IsFromFile, IsFromFiles, built_lines, built_over, first_unbuilt, is_built, lines_behind, log_or_status};
 ghost use Rattle.parcon.specs.declared.status.Status.TheVariants.{NoMemory};
 
 use crate::command::command;
 use crate::status::{LimitKind, Status};
+use pc_cursor::{CheckFault, Log};
 use pc_model::NameText;
 use pc_script::{PlayAct, PlayLine, PlayScript, read_play};
 use pc_world::{FILE_BYTES_MAX, Files, FilesFault};
@@ -30,10 +32,43 @@ pub(crate) fn script_to_play<F: Files>(
     };
     let log = read(alloc, files, names.log)?;
     let script = read(alloc, files, names.script)?;
-    if !log.is_empty() {
-        return Err(Status::NotBuilt { line: 0 });
+    lines_behind(alloc, names.log, log.as_slice(), script.as_slice())
+}
+
+/// The lines of a script behind a file's log.
+fn lines_behind(alloc: Global, name: &str, log: &[u8], script: &[u8]) -> Result<PlayScript, Status>
+    ensures { (result ≡ Err NoMemory) ⊎ (result ≡ lines_behind name.now log.now script.now) }
+{
+    let _log = checked(alloc, name, log)?;
+    let script = read_play(alloc, script)?;
+    built_over(log, script)
+}
+
+/// A file's log, which has to read.
+fn checked<'a>(alloc: Global, name: &str, log: &'a [u8]) -> Result<Log<'a>, Status>
+    ensures { (result ≡ Err NoMemory)
+        ⊎ (result ≡ log_or_status name.now (all_batches log.now)) }
+{
+    match Log::check(alloc, log) {
+        Ok(log) => Ok(log),
+        Err(CheckFault::Bad(bad)) => Err(Status::BadLog {
+            name: NameText::from_str(alloc, name)?,
+            place: bad.place,
+            fault: bad.fault,
+        }),
+        Err(CheckFault::NoMemory) => Err(Status::NoMemory),
     }
-    built(read_play(alloc, script.as_slice())?)
+}
+
+/// The script, unless the program cannot play it over this log.
+fn built_over(log: &[u8], script: PlayScript) -> Result<PlayScript, Status>
+    ensures { result ≡ built_over log.now script }
+{
+    if log.is_empty() {
+        built(script)
+    } else {
+        Err(Status::NotBuilt { line: 0 })
+    }
 }
 
 /// The bytes of a file.

@@ -2,6 +2,7 @@
 
 ghost use Rattle.std.specs.Prelude.{◌≡◌};
 
+use pc_cursor::LogFaultKind;
 use pc_model::NameText;
 use pc_script::{ScriptKind, ScriptReadFault};
 use std::alloc::AllocError;
@@ -24,17 +25,33 @@ pub enum Status {
     /// The words are not those of a command.
     Usage,
     /// The file could not be read.
-    ReadFault { name: NameText },
+    ReadFault {
+        name: NameText,
+    },
+    /// The first fault of the log of this file, at the place of the batch that has it.
+    BadLog {
+        name: NameText,
+        place: u64,
+        fault: LogFaultKind,
+    },
     /// The first bad line of the script; lines are numbered from 1.
-    BadScript { line: u64, kind: ScriptKind },
+    BadScript {
+        line: u64,
+        kind: ScriptKind,
+    },
     /// The output could not be written.
     SinkFault,
     /// There is more of something than may be: more than this number.
-    Limit { which: LimitKind, number: u64 },
+    Limit {
+        which: LimitKind,
+        number: u64,
+    },
     /// Memory ran out.
     NoMemory,
     /// The program cannot play this line yet, or, at line 0, a log with bytes.
-    NotBuilt { line: u64 },
+    NotBuilt {
+        line: u64,
+    },
 }
 
 /// The number of `Status::NoMemory`.
@@ -51,6 +68,7 @@ impl Status {
             Status::Whole => 0,
             Status::Usage => 1,
             Status::ReadFault { .. } => 2,
+            Status::BadLog { .. } => 4,
             Status::BadScript { .. } => 5,
             Status::SinkFault => 7,
             Status::Limit { .. } => 9,

@@ -14,9 +14,9 @@ const ROOM: u64 = 1024;
 /// A log, a script, the output of the play and the number of its status.
 type Play = (&'static [u8], &'static [u8], &'static [u8], u8);
 
-/// Plays over which nothing fails. Of the faults of an input the first in this order decides: a log
-/// with bytes, a bad line of the script, a line that is not built.
-const PLAYS: [Play; 9] = [
+/// Plays over which nothing fails. Of the faults of an input the first in this order decides: a bad
+/// log, a bad line of the script, a log with bytes, a line that is not built.
+const PLAYS: [Play; 11] = [
     (
         b"",
         b"assign 0\ncommit 1\n",
@@ -45,7 +45,81 @@ const PLAYS: [Play; 9] = [
         5,
     ),
     (b"", b"assign 1024\n", b"fault script 1 out-of-range\n", 5),
-    (b"x", b"assign\n", b"fault not-built 0\n", 99),
+    (b"x", b"assign\n", b"fault log =a.log at 0 short 0 61\n", 4),
+    (
+        &THREE_RECORDS,
+        b"poll 0 1\nassign\n",
+        b"fault script 2 word-count\n",
+        5,
+    ),
+    (&THREE_RECORDS, b"poll 0 1\n", b"fault not-built 0\n", 99),
+];
+
+/// One batch with the records (0, "a", "x"), (1, "b", "yy") and (2, "a", "zzz").
+const THREE_RECORDS: [u8; 91] = [
+    // baseOffset, batchLength, partitionLeaderEpoch, magic, crc
+    0x00, 0x00, 0x00, 0x00, 0x00, 0x00, 0x00, 0x00, //
+    0x00, 0x00, 0x00, 0x4F, 0x00, 0x00, 0x00, 0x00, 0x02, 0xD6, 0xFC, 0x11, 0xEE, //
+    // attributes, lastOffsetDelta, baseTimestamp, maxTimestamp
+    0x00, 0x00, 0x00, 0x00, 0x00, 0x02, //
+    0x00, 0x00, 0x00, 0x00, 0x00, 0x00, 0x00, 0x00, //
+    0x00, 0x00, 0x00, 0x00, 0x00, 0x00, 0x00, 0x00, //
+    // producerId, producerEpoch, baseSequence, recordsCount
+    0xFF, 0xFF, 0xFF, 0xFF, 0xFF, 0xFF, 0xFF, 0xFF, //
+    0xFF, 0xFF, 0xFF, 0xFF, 0xFF, 0xFF, 0x00, 0x00, 0x00, 0x03, //
+    // the records
+    0x10, 0x00, 0x00, 0x00, 0x02, 0x61, 0x02, 0x78, 0x00, //
+    0x12, 0x00, 0x00, 0x02, 0x02, 0x62, 0x04, 0x79, 0x79, 0x00, //
+    0x14, 0x00, 0x00, 0x04, 0x02, 0x61, 0x06, 0x7A, 0x7A, 0x7A, 0x00,
+];
+
+/// The place of a byte of that log that is another, that byte, the checksum, and the fault line.
+type Damaged = (usize, u8, [u8; 4], &'static [u8]);
+
+const CRC: [u8; 4] = [0xD6, 0xFC, 0x11, 0xEE];
+
+/// Each kind of fault that a batch has.
+const DAMAGED: [Damaged; 10] = [
+    (11, 0x50, CRC, b"fault log =a.log at 0 short 0 92\n"),
+    (16, 0x01, CRC, b"fault log =a.log at 0 magic 1\n"),
+    (16, 0xFF, CRC, b"fault log =a.log at 0 magic -1\n"),
+    (11, 0x30, CRC, b"fault log =a.log at 0 length 48\n"),
+    (
+        68,
+        0x77,
+        CRC,
+        b"fault log =a.log at 0 crc 3606843886 981511524\n",
+    ),
+    (
+        22,
+        0x04,
+        [0x78, 0xFF, 0x12, 0xB4],
+        b"fault log =a.log at 0 compressed 4\n",
+    ),
+    (
+        0,
+        0xFF,
+        CRC,
+        b"fault log =a.log at 0 offset-range -72057594037927936 2\n",
+    ),
+    (
+        61,
+        0x12,
+        [0xFD, 0x8A, 0x93, 0xFC],
+        b"fault log =a.log at 0 record 61 leftover\n",
+    ),
+    (
+        73,
+        0x00,
+        [0xC8, 0x2E, 0x15, 0xB8],
+        b"fault log =a.log at 0 record 70 delta\n",
+    ),
+    (
+        60,
+        0x04,
+        [0xB8, 0x64, 0x44, 0xBC],
+        b"fault log =a.log at 0 count 4 3\n",
+    ),
 ];
 
 /// The numbers of the reads, of the link's calls and of the writes that fail, those of the link's
@@ -244,6 +318,44 @@ fn plays(rt: HostRuntime) -> Result<(), Fail> {
         assert_eq!(rt; out.bytes(), output);
         assert_eq!(rt; ended.status.number(), status, "at {script:?}");
     }
+    Ok(())
+}
+
+/// The log with another byte and another checksum.
+fn damaged(place: usize, byte: u8, crc: [u8; 4]) -> [u8; 91] {
+    let mut log = THREE_RECORDS;
+    if place < 91 {
+        log[place] = byte;
+    }
+    log[17..21].copy_from_slice(&crc);
+    log
+}
+
+#[test]
+fn damaged_logs(rt: HostRuntime) -> Result<(), Fail> {
+    for (place, byte, crc, output) in DAMAGED {
+        let mut out = MemorySink::new(rt.alloc(), ROOM, &[])?;
+        let log = damaged(place, byte, crc);
+        let ended = play(rt.alloc(), &WORDS, &log, SCRIPT, &NONE, &mut out)?;
+        assert_eq!(rt; out.bytes(), output, "at {place}");
+        assert_eq!(rt; ended.status.number(), 4, "at {place}");
+    }
+    Ok(())
+}
+
+/// The second batch begins again at offset 0.
+#[test]
+fn two_logs_in_one_file(rt: HostRuntime) -> Result<(), Fail> {
+    let mut log = [0; 182];
+    log[..91].copy_from_slice(&THREE_RECORDS);
+    log[91..].copy_from_slice(&THREE_RECORDS);
+    let mut out = MemorySink::new(rt.alloc(), ROOM, &[])?;
+    let ended = play(rt.alloc(), &WORDS, &log, SCRIPT, &NONE, &mut out)?;
+    assert_eq!(rt;
+        out.bytes(),
+        b"fault log =a.log at 91 offsets-fall 2 0\n".as_slice()
+    );
+    assert_eq!(rt; ended.status.number(), 4);
     Ok(())
 }
 

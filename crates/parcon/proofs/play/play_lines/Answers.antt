@@ -1,5 +1,5 @@
 -- No line, and one line more.
-use Rattle.std.proofs.Common.{◌≡◌, ◌∙◌, refl, ap, sym, subst, arith, get_or}
+use Rattle.std.proofs.Common.{◌≡◌, ◌∙◌, refl, ap, subst, arith, get_or}
 use Rattle.pc_script.specs.declared.play.PlayAct.TheVariants.{Assign}
 use Rattle.pc_model.specs.Given.{Given, has_log}
 use Rattle.parcon.specs.Play.{Asked, HasCause, after_line}
