@@ -1,5 +1,10 @@
 mod LogFaultLemmas
 mod WrittenLemmas
+mod CommandLemmas
+mod ListLemmas
 mod ReadingLemmas
+mod PlanLemmas
+mod HandLemmas
+mod CallLemmas
 mod PlayLemmas
 mod PromiseLemmas

@@ -1,89 +1,43 @@
 -- What a line's call does to a play, and what lines do one after the other.
-use Rattle.std.proofs.Common.{◌≡◌, ◌≤◌, ◌<◌, inl, ℕ, zero, suc, ◌+◌, Bool, true, false, List, [], ◌∷◌, ◌++◌, length, take, get_or, Result, Ok, Err, refl, ap, sym, subst, ◌∙◌, arith, add-one, length-append}
+use Rattle.std.proofs.Common.{◌≡◌, ◌≤◌, ◌<◌, inl, ℕ, ◌+◌, Bool, true, false, List, [], ◌∷◌, ◌++◌, length, take, get_or, Option, Some, None, Result, Ok, Err, refl, ap, sym, subst, ◌∙◌, arith, zero, suc, add-one, length-append}
 use Rattle.std.specs.Prelude.{IfOk, IsTrue, is_none}
 use Rattle.std.specs.List.{AllByRecursion}
 use Rattle.std.proofs.Math.Bool.{Bool-set}
 use Rattle.std.proofs.lemmas.List.{append-nil}
 use Rattle.std.proofs.Math.Seq.{take-suc}
 use Rattle.pc_laws.proofs.Lists.{true-not-false}
-use Rattle.pc_model.specs.declared.commit.Commit.{Commit as StoredCommit}
 use Rattle.pc_model.specs.declared.event.Event.{Event}
+use Rattle.pc_model.specs.Record.{Record}
 use Rattle.pc_model.specs.declared.setup.Settings.{Settings}
 use Rattle.pc_model.specs.declared.setup.Setup.{Setup}
 use Rattle.pc_model.specs.Defaults.{default_settings, settings_of}
-use Rattle.pc_model.specs.Given.{Given, has_log, no_commit}
+use Rattle.pc_model.specs.Given.{Given, has_log}
 use Rattle.pc_model.specs.Ranges.{settings_fault}
 use Rattle.pc_model.specs.Lawful.{IsLegal}
 use Rattle.pc_model.specs.Stored.{may_store}
 use Rattle.pc_laws.specs.Lists.{In}
-use Rattle.pc_script.specs.declared.play.PlayAct.{PlayAct}
-use Rattle.pc_script.specs.declared.play.PlayAct.TheVariants.{Assign, Commit}
 use Rattle.pc_script.specs.declared.play.PlayLine.{PlayLine}
-use Rattle.pc_offset_client.specs.declared.fault.ClientFault.{ClientFault}
-use Rattle.pc_offset_client.specs.declared.fault.ClientFault.TheVariants as client
-use Rattle.pc_offset_client.specs.declared.fault.ClientFault.TheVariants.{LinkFailed}
 use Rattle.pc_offset_client.specs.Client.{kept_for}
 use Rattle.pc_model.specs.Broker.{Broker}
-use Rattle.pc_engine.specs.declared.fault.EngineFault.{EngineFault}
-use Rattle.pc_engine.specs.declared.fault.EngineFault.TheVariants.{NoMemory}
-use Rattle.pc_engine.specs.declared.engine.Committed.{Committed}
-use Rattle.pc_engine.specs.Effect.{Step, Does, IsFetched, IsStored, StoresOnly, assign_step, commit_step}
-use Rattle.pc_engine.proofs.EngineLemmas.{stores_only-same}
+use Rattle.pc_engine.specs.Effect.{StoresOnly}
+use Rattle.pc_engine.specs.Engine.{given_by}
+use Rattle.pc_engine.proofs.EngineLemmas.{start_of-given_by, stores_only-same}
+use Rattle.pc_engine.proofs.PartEvents.{log-below}
 use Rattle.parcon.specs.declared.remark.Remark.{Remark}
-use Rattle.parcon.specs.Play.{Asked, Play, HasCause, PlaysTo, after_line, done_by, made, played, remarks_on, start, step_of}
-use Rattle.parcon.specs.Promise.{IsKept, default_setup, default_in_range, given_of}
+use Rattle.parcon.specs.declared.remark.Notice.{Notice}
+use Rattle.parcon.specs.declared.hand.Hand.{Hand}
+use Rattle.parcon.specs.Hand.{AreIn, HasInHand}
+use Rattle.parcon.specs.Play.{Asked, Play, HasCause, LeadTo, LeadsTo, Makes, PlaysTo, after_line, played, remarks_on, start, step_of}
+use Rattle.parcon.proofs.HandLemmas.{expects-start}
+use Rattle.pc_script.specs.PlayScript.{ArePlayable, IsPlayable}
+use Rattle.pc_task.specs.Jobs.{PlainJob}
+use Rattle.parcon.specs.Promise.{IsKept, default_setup, default_in_range}
 use Rattle.parcon.proofs.ReadingLemmas.{risen-later, risen-earlier}
-
--- ---- one call
 
 false-not-true : false ≡ true → ⊥
 false-not-true is = true-not-false true refl (sym is)
 
-no-answer-failed : ◌≡◌ {A = Asked} (Err client.NoMemory) (Err LinkFailed) → ⊥
-no-answer-failed is = cc
-
--- an assignment, with the commit that the link gave
-pub assigned : (told : Bool) (b : Broker) (given : Given) (h h' : List Event) (p : ℕ)
-    (r : Result (Unit {0}) EngineFault) (f f' : ℕ)
-    → (o : Asked) × IsFetched told b f f' p o × Does r (assign_step given h p o) h h'
-    → (asked : Asked) × HasCause f f' asked × Does r (step_of given h (Assign p) asked) h h'
-assigned told b given h h' p r f f' (o, fetched, does) = (o, fetched.cause, does)
-
--- a commit does the same without its receipt
-does-made : (r : Result Committed EngineFault) (step : Step Committed) (h h' : List Event)
-    → Does r step h h'
-    → Does (made r) (record { answer = made step.answer; events = step.events }) h h'
-does-made (Ok x) step h h' does = (ap made does.0, does.1)
-does-made (Err NoMemory) step h h' does = does
-does-made (Err f) step h h' does = (ap made does.0, does.1)
-
-pub committed : (told : Bool) (b b' : Broker) (given : Given) (h h' : List Event) (p : ℕ)
-    (r : Result Committed EngineFault) (f f' : ℕ) (c : StoredCommit)
-    → (o : Result (Unit {0}) ClientFault) × IsStored told b b' f f' p c o
-    × Does r (commit_step given h p o) h h'
-    → (asked : Asked) × HasCause f f' asked × Does (made r) (step_of given h (Commit p) asked) h h'
-committed told b b' given h h' p r f f' c (Ok done, stored, does) = (
-  Ok no_commit,
-  λ is. cc,
-  does-made r (commit_step given h p (Ok done)) h h' does,
-)
-committed told b b' given h h' p r f f' c (Err fault, stored, does) = (
-  Err fault,
-  λ is. stored.cause (ap done_by is),
-  does-made r (commit_step given h p (Err fault)) h h' does,
-)
-
--- a line that is not built makes no call
-pub none-made : (given : Given) (h : List Event) (act : PlayAct) (f : ℕ)
-    → ((p : ℕ) → act ≡ Assign p → ⊥) → ((p : ℕ) → act ≡ Commit p → ⊥)
-    → (asked : Asked) × HasCause f f asked × Does (Ok tt) (step_of given h act asked) h h
-none-made given h (Assign p) f not_assign not_commit = absurd (not_assign p refl)
-none-made given h (Commit p) f not_assign not_commit = absurd (not_commit p refl)
-none-made given h act f not_assign not_commit = (
-  Err client.NoMemory,
-  λ is. absurd (no-answer-failed is),
-  (refl, refl),
-)
+-- ---- the store
 
 -- what is stored changed for some parts alone, and then again
 stores_only-trans : (may : ℕ → Bool) (a b c : Broker) → StoresOnly may a b → StoresOnly may b c
@@ -102,53 +56,71 @@ stores_only-next may may' a b c same first then_more = stores_only-trans may a b
 
 -- ---- one line
 
-does-fault : (fault : EngineFault) (step : Step (Unit {0})) (h h' : List Event)
-    → (fault ≡ NoMemory → ⊥) → Does (Err fault) step h h'
-    → (Err fault ≡ step.answer) × (h' ≡ step.events ++ h)
-does-fault NoMemory step h h' other does = absurd (other refl)
-does-fault fault step h h' other does = does
+-- a line without a remark
+pub line-done : (given : Given) (line : PlayLine) (h h' : List Event) (jobs : List PlainJob)
+    (hand : Hand) (remarks : List Remark) (f f' : ℕ)
+    → Makes given h jobs line.act f f' h' hand None
+    → LeadsTo given (record { history = h; hand = jobs; remarks = remarks }) line f f' h' hand
+    remarks
+line-done given line h h' jobs hand remarks f f' made = record {
+  asked = made.asked;
+  cause = made.cause;
+  jobs = (step_of given h jobs line.act made.asked).hand;
+  end = ap (λ (k : List Event). record {
+    history = k;
+    hand = (step_of given h jobs line.act made.asked).hand;
+    remarks = remarks
+        ++ remarks_on line.line (step_of given h jobs line.act made.asked).notice;
+  }) (sym made.events)
+      ∙ ap (λ (n : Option Notice). record {
+        history = h';
+        hand = (step_of given h jobs line.act made.asked).hand;
+        remarks = remarks ++ remarks_on line.line n;
+      }) (sym made.notice_is)
+      ∙ ap (λ (l : List Remark). record {
+        history = h';
+        hand = (step_of given h jobs line.act made.asked).hand;
+        remarks = l;
+      }) (append-nil remarks);
+  in_hand = made.in_hand;
+}
 
--- a call that was answered leaves no remark
-pub line-done : (given : Given) (line : PlayLine) (h h' : List Event) (remarks : List Remark)
-    (f f' : ℕ) → (asked : Asked) × HasCause f f' asked
-    × Does (Ok tt) (step_of given h line.act asked) h h'
-    → (asked : Asked) × HasCause f f' asked
-    × (after_line given (record { history = h; remarks = remarks }) line asked
-    ≡ record { history = h'; remarks = remarks })
-line-done given line h h' remarks f f' (asked, cause, does) = (
-  asked,
-  cause,
-  ap (λ (r : Result (Unit {0}) EngineFault). record {
-    history = (step_of given h line.act asked).events ++ h;
-    remarks = remarks ++ remarks_on line.line r;
-  }) (sym does.0)
-      ∙ ap (λ (k : List Event). record { history = k; remarks = remarks ++ [] }) (sym does.1)
-      ∙ ap (λ (l : List Remark). record { history = h'; remarks = l }) (append-nil remarks),
-)
+-- one with a remark
+pub line-remarked : (given : Given) (line : PlayLine) (h h' : List Event) (jobs : List PlainJob)
+    (hand : Hand) (remarks remarks' : List Remark) (notice : Notice) (f f' : ℕ)
+    → remarks' ≡ remarks ++ record { line = line.line; notice = notice } ∷ []
+    → Makes given h jobs line.act f f' h' hand (Some notice)
+    → LeadsTo given (record { history = h; hand = jobs; remarks = remarks }) line f f' h' hand
+    remarks'
+line-remarked given line h h' jobs hand remarks remarks' notice f f' pushed made = record {
+  asked = made.asked;
+  cause = made.cause;
+  jobs = (step_of given h jobs line.act made.asked).hand;
+  end = ap (λ (k : List Event). record {
+    history = k;
+    hand = (step_of given h jobs line.act made.asked).hand;
+    remarks = remarks
+        ++ remarks_on line.line (step_of given h jobs line.act made.asked).notice;
+  }) (sym made.events)
+      ∙ ap (λ (n : Option Notice). record {
+        history = h';
+        hand = (step_of given h jobs line.act made.asked).hand;
+        remarks = remarks ++ remarks_on line.line n;
+      }) (sym made.notice_is)
+      ∙ ap (λ (l : List Remark). record {
+        history = h';
+        hand = (step_of given h jobs line.act made.asked).hand;
+        remarks = l;
+      }) (sym pushed);
+  in_hand = made.in_hand;
+}
 
--- one that was refused leaves one
-pub line-refused : (given : Given) (line : PlayLine) (h h' : List Event)
-    (remarks remarks' : List Remark) (fault : EngineFault) (f f' : ℕ) → (fault ≡ NoMemory → ⊥)
-    → remarks' ≡ remarks ++ record { line = line.line; fault = fault } ∷ []
-    → (asked : Asked) × HasCause f f' asked
-    × Does (Err fault) (step_of given h line.act asked) h h'
-    → (asked : Asked) × HasCause f f' asked
-    × (after_line given (record { history = h; remarks = remarks }) line asked
-    ≡ record { history = h'; remarks = remarks' })
-line-refused given line h h' remarks remarks' fault f f' other pushed (asked, cause, does) =
-    let is = does-fault fault (step_of given h line.act asked) h h' other does in (
-      asked,
-      cause,
-      ap (λ (r : Result (Unit {0}) EngineFault). record {
-        history = (step_of given h line.act asked).events ++ h;
-        remarks = remarks ++ remarks_on line.line r;
-      }) (sym is.0)
-          ∙ ap (λ (k : List Event). record {
-            history = k;
-            remarks = remarks ++ record { line = line.line; fault = fault } ∷ [];
-          }) (sym is.1)
-          ∙ ap (λ (l : List Remark). record { history = h'; remarks = l }) (sym pushed),
-    )
+-- each line of a script is one that may be played
+pub playable-at : (lines : List PlayLine) (i : ℕ) (d : PlayLine) → i < length lines
+    → ArePlayable lines → IsPlayable (get_or lines i d).act
+playable-at [] i d below are = absurd (omega (arith, below))
+playable-at (line ∷ lines) zero d below are = are.0
+playable-at (line ∷ lines) (suc i) d below are = playable-at lines i d (omega (arith, below)) are.1
 
 -- ---- one line after the other
 
@@ -178,7 +150,7 @@ played-more given s (l ∷ lines) (b ∷ asked) line a len =
     played-more given (after_line given s l b) lines asked line a (omega arith)
 
 -- no line leads nowhere
-pub plays-none : (given : Given) (s : Play) (f : ℕ) → PlaysTo given s [] f f s
+plays-none : (given : Given) (s : Play) (f : ℕ) → PlaysTo given s [] f f s
 unfolding played
 plays-none given s f = record { asked = []; each = refl; causes = tt; end = refl }
 
@@ -198,7 +170,7 @@ plays-more given s t u lines line f0 f1 f2 le more plays (a, cause, is) = record
       ∙ ap (λ (p : Play). after_line given p line a) plays.end ∙ is;
 }
 
-pub plays-next : (given : Given) (s t u : Play) (lines : List PlayLine) (i : ℕ) (line d : PlayLine)
+plays-next : (given : Given) (s t u : Play) (lines : List PlayLine) (i : ℕ) (line d : PlayLine)
     (f0 f1 f2 : ℕ) → f0 ≤ f1 → f1 ≤ f2 → i < length lines → line ≡ get_or lines i d
     → PlaysTo given s (take i lines) f0 f1 t
     → (asked : Asked) × HasCause f1 f2 asked × (after_line given t line asked ≡ u)
@@ -208,6 +180,36 @@ plays-next given s t u lines i line d f0 f1 f2 le more below is plays step =
     (ap (λ (x : PlayLine). take i lines ++ x ∷ []) is ∙ sym (take-suc lines i d below)
     ∙ ap (λ (n : ℕ). take n lines) (sym (add-one i)))
     (plays-more given s t u (take i lines) line f0 f1 f2 le more plays step)
+
+-- no line leads on with what is in hand
+pub lead-none : (given : Given) (h : List Event) (jobs : List PlainJob) (hand : Hand)
+    (remarks : List Remark) (f : ℕ) → HasInHand given h jobs hand
+    → LeadTo given (record { history = h; hand = jobs; remarks = remarks }) [] f f h hand remarks
+lead-none given h jobs hand remarks f has = record {
+  jobs = jobs;
+  plays = plays-none given (record { history = h; hand = jobs; remarks = remarks }) f;
+  in_hand = has;
+}
+
+-- one line more
+pub lead-next : (given : Given) (s : Play) (lines : List PlayLine) (i : ℕ) (line d : PlayLine)
+    (f0 f1 f2 : ℕ) (h h' : List Event) (hand hand' : Hand) (remarks remarks' : List Remark)
+    → f0 ≤ f1 → f1 ≤ f2 → i < length lines → line ≡ get_or lines i d
+    → LeadTo given s (take i lines) f0 f1 h hand remarks
+    → ((jobs : List PlainJob) → HasInHand given h jobs hand
+    → LeadsTo given (record { history = h; hand = jobs; remarks = remarks }) line f1 f2 h' hand'
+    remarks')
+    → LeadTo given s (take (i + 1) lines) f0 f2 h' hand' remarks'
+lead-next given s lines i line d f0 f1 f2 h h' hand hand' remarks remarks' le more below is led step =
+    let next = step led.jobs led.in_hand in
+    record {
+      jobs = next.jobs;
+      plays = plays-next given s
+          (record { history = h; hand = led.jobs; remarks = remarks })
+          (record { history = h'; hand = next.jobs; remarks = remarks' }) lines i line d f0 f1 f2
+          le more below is led.plays (next.asked, next.cause, next.end);
+      in_hand = next.in_hand;
+    }
 
 -- ---- the whole play
 
@@ -227,14 +229,25 @@ kept-from given given' told told' store0 store store' h same told_is same_told k
       (is.others (ap (λ (x : Given). x.is_told) same ∙ t));
 }
 
-pub plays-from-start : (given : Given) (h : List Event) (remarks : List Remark)
-    (lines : List PlayLine) (f f' : ℕ) (t : Play) → h ≡ [] → remarks ≡ []
-    → PlaysTo given (record { history = h; remarks = remarks }) lines f f' t
-    → PlaysTo given start lines f f' t
-plays-from-start given h remarks lines f f' t no_events no_remarks plays =
-    subst (λ (s : Play). PlaysTo given s lines f f' t)
-    (ap (λ (k : List Event). record { history = k; remarks = remarks }) no_events
-    ∙ ap (λ (l : List Remark). record { history = []; remarks = l }) no_remarks) plays
+-- with no event and no job in hand the lines lead on from the start
+pub lead-from-start : (given : Given) (h : List Event) (remarks : List Remark)
+    (lines : List PlayLine) (f f' : ℕ) (h' : List Event) (hand hand' : Hand)
+    (remarks' : List Remark) → h ≡ [] → remarks ≡ [] → AreIn hand []
+    → ((jobs : List PlainJob) → HasInHand given h jobs hand → LeadTo given
+    (record { history = h; hand = jobs; remarks = remarks }) lines f f' h' hand' remarks')
+    → (jobs : List PlainJob) × PlaysTo given start lines f f'
+    (record { history = h'; hand = jobs; remarks = remarks' })
+lead-from-start given h remarks lines f f' h' hand hand' remarks' no_events no_remarks none lead =
+    let e = expects-start given in
+    let led = lead [] (subst (λ (k : List Event). HasInHand given k [] hand) (sym no_events)
+    (record { each = none; expected = e.expected; fresh = e.fresh })) in (
+      led.jobs,
+      subst (λ (s : Play). PlaysTo given s lines f f'
+          (record { history = h'; hand = led.jobs; remarks = remarks' }))
+          (ap (λ (k : List Event). record { history = k; hand = []; remarks = remarks }) no_events
+          ∙ ap (λ (l : List Remark). record { history = []; hand = []; remarks = l }) no_remarks)
+          led.plays,
+    )
 
 -- ---- the setup
 
@@ -269,18 +282,22 @@ default-is s values = same-setup (settings_of s) default_settings values s.in_ra
 
 -- ---- before any line
 
-stored-at-start : (told : Bool) (store : Broker) → told ≡ true → (p : ℕ)
-    → has_log (given_of told store) p ≡ true
-    → In (kept_for store p) (may_store (given_of told store) [] p)
-stored-at-start true store is zero log = inl refl
-stored-at-start true store is (suc p) log = absurd (false-not-true log)
-stored-at-start false store is p log = absurd (false-not-true is)
+stored-at-start : (setup : Setup) (logs : List (Option (List Record))) (told : Bool)
+    (store : Broker) → told ≡ true → (p : ℕ)
+    → has_log (given_by setup logs [] told (kept_for store)) p ≡ true
+    → In (kept_for store p) (may_store (given_by setup logs [] told (kept_for store)) [] p)
+stored-at-start setup logs true store is p log =
+    inl (sym (start_of-given_by setup logs p [] (kept_for store) (log-below logs p log)))
+stored-at-start setup logs false store is p log = absurd (false-not-true is)
 
-pub kept-at-start : (told : Bool) (store : Broker) → IsKept (given_of told store) store store []
-kept-at-start told store = record {
-  legal = refl;
-  stored = λ t p log. stored-at-start told store t p log;
-  others = λ t. stores_only-same (has_log (given_of told store)) store store refl;
+pub kept-at-start : (setup : Setup) (logs : List (Option (List Record))) (told : Bool)
+    (store : Broker) → IsLegal (given_by setup logs [] told (kept_for store)) []
+    → IsKept (given_by setup logs [] told (kept_for store)) store store []
+kept-at-start setup logs told store legal = record {
+  legal = legal;
+  stored = λ t p log. stored-at-start setup logs told store t p log;
+  others = λ t. stores_only-same (has_log (given_by setup logs [] told (kept_for store))) store store
+      refl;
 }
 
 -- ---- what an answer says

@@ -1,29 +1,34 @@
 -- The promise from what the steps of a play answered.
-use Rattle.std.proofs.Common.{◌≡◌, ◌⊎◌, inl, inr, ℕ, Bool, true, List, [], ◌++◌, Option, Result, Ok, Err, refl, ap, sym, subst, ◌∙◌}
+use Rattle.std.proofs.Common.{◌≡◌, ◌⊎◌, inl, inr, ℕ, List, [], ◌++◌, Option, Result, Ok, Err, refl, ap, sym, subst, ◌∙◌}
 use Rattle.std.specs.Prelude.{MatchResult, IfOk}
 use Rattle.std.proofs.lemmas.List.{append-nil}
 use Rattle.pc_model.specs.Broker.{Broker}
 use Rattle.pc_offset_client.specs.Client.{kept_for}
-use Rattle.pc_engine.specs.Effect.{StoresOnly}
+use Rattle.pc_engine.specs.Engine.{given_by}
 use Rattle.pc_model.specs.declared.event.Event.{Event}
-use Rattle.pc_model.specs.Given.{has_log}
+use Rattle.pc_model.specs.declared.setup.Setup.{Setup}
+use Rattle.pc_model.specs.Record.{Record}
+use Rattle.pc_model.specs.Given.{Given}
 use Rattle.pc_model.specs.Lawful.{IsLegal}
-use Rattle.pc_model.specs.Sound.{IsSound, IsOrderly}
 use Rattle.pc_model.specs.Stored.{may_store}
 use Rattle.pc_laws.specs.Lists.{In}
 use Rattle.pc_laws.proofs.SoundLaw.{is_sound}
 use Rattle.pc_laws.proofs.OrderlyLaw.{is_orderly}
 use Rattle.pc_script.specs.declared.play.PlayLine.{PlayLine}
+use Rattle.pc_task.specs.Jobs.{PlainJob}
 use Rattle.parcon.specs.declared.remark.Remark.{Remark}
 use Rattle.parcon.specs.declared.status.Status.{Status}
 use Rattle.parcon.specs.declared.status.Status.TheVariants.{Whole, NoMemory}
-use Rattle.parcon.specs.Reading.{IsFromFiles}
+use Rattle.parcon.specs.Command.{files_of}
+use Rattle.parcon.specs.Reading.{◌>>=◌, FileTexts, IsFromFiles}
+use Rattle.parcon.specs.Plan.{lines_behind, lines_to_play, logs_of, logs_read}
 use Rattle.parcon.specs.Play.{Play, PlaysTo, start}
-use Rattle.parcon.specs.Ending.{ends, ending_after, output_of, play_text, fault_line}
+use Rattle.parcon.specs.Ending.{ends, ending_of, output_of, play_text, text_with, fault_line}
 use Rattle.parcon.specs.Written.{HasFront, IsWritten}
-use Rattle.parcon.specs.Promise.{Ends, IsKept, Outside, given_of}
+use Rattle.parcon.specs.Promise.{Ends, FilesSeen, IsCall, IsKept, Outside, Plays, default_setup, given_of}
 use Rattle.parcon.proofs.WrittenLemmas.{front-none, unchanged}
-use Rattle.parcon.proofs.ReadingLemmas.{status-is}
+use Rattle.parcon.proofs.ReadingLemmas.{any-answers, status-is}
+use Rattle.parcon.proofs.PlanLemmas.{files-logs, logs-read-are, logs-rise}
 use Rattle.parcon.proofs.PlayLemmas.{kept-at-start}
 
 whole-no-line : fault_line Whole ≡ []
@@ -49,117 +54,182 @@ unwritten before after f f' text given is same = record {
   whole = λ whole. absurd (whole-not-memory (sym whole ∙ is));
 }
 
-module _ (words : List (List ℕ)) (before after : Outside) where
-  -- memory ran out while the files were read
-  pub ends-unread : (given : Status) (h : List Event) → given ≡ NoMemory → h ≡ []
-      → after.written ≡ before.written → Ends words before after given h
-  ends-unread given h is none same = record {
+-- ---- how a play ends
+
+module _ (given : Given) (before after : Outside) where
+  -- nothing was played, for want of memory
+  pub ends-wanting : (lines : Result (List PlayLine) Status) (status : Status) (h : List Event)
+      → status ≡ NoMemory → h ≡ [] → after.written ≡ before.written
+      → Ends given lines before after status h
+  ends-wanting lines status h is none same = record {
     ending = record { status = Whole; play = start };
     decided = inl is;
     history_is = none;
     output = unwritten before.written after.written before.write_faults after.write_faults
-        (output_of (record { status = Whole; play = start })) given is same;
+        (output_of (record { status = Whole; play = start })) status is same;
   }
 
-  -- the play did not begin
-  pub ends-unplayed : (s given : Status) (h : List Event)
-      → IsFromFiles words before.contents before.read_faults after.read_faults (Err s)
-      → h ≡ [] → IsWritten before.written after.written before.write_faults after.write_faults
-      (fault_line s) s given
-      → Ends words before after given h
-  ends-unplayed s given h files none written = record {
+  -- the play did not begin, as the lines say or for want of memory
+  pub ends-unplayed : (lines : Result (List PlayLine) Status) (s status : Status)
+      (h : List Event) → (s ≡ NoMemory) ⊎ (lines ≡ Err s) → h ≡ []
+      → IsWritten before.written after.written before.write_faults after.write_faults
+      (fault_line s) s status → (s ≡ NoMemory → status ≡ NoMemory)
+      → Ends given lines before after status h
+  ends-unplayed lines s status h (inl wanting) none written memory =
+      ends-wanting lines status h (memory wanting) none
+      (unchanged before.written after.written s wanting written.front)
+  ends-unplayed lines s status h (inr is) none written memory = record {
     ending = ends s;
     decided = inr (record {
-      log = files.log;
-      script = files.script;
-      answers = files.answers;
       asked = [];
       causes = tt;
-      decided = ap (λ (l : Result (List PlayLine) Status).
-          ending_after (given_of before.is_told before.store) l []) files.lines;
+      decided = ap (λ (l : Result (List PlayLine) Status). ending_of given l []) is;
     });
     history_is = none;
     output = written;
   }
 
-  -- the one or the other
-  pub ends-fault : (s given : Status) (h : List Event)
-      → ◌≡◌ {A = Result (List PlayLine) Status} (Err s) (Err NoMemory)
-      ⊎ IsFromFiles words before.contents before.read_faults after.read_faults (Err s)
-      → h ≡ [] → IsWritten before.written after.written before.write_faults after.write_faults
-      (fault_line s) s given → (s ≡ NoMemory → given ≡ NoMemory)
-      → Ends words before after given h
-  ends-fault s given h (inl is) none written memory =
-      let wanting : s ≡ NoMemory = status-is s NoMemory is in
-      ends-unread given h (memory wanting) none
-      (unchanged before.written after.written s wanting written.front)
-  ends-fault s given h (inr files) none written memory =
-      ends-unplayed s given h files none written
-
   -- the play went through, or memory ran out in it
   pub ends-played : {V E : Type 0} (items : V → List Remark) (lines : List PlayLine)
-      (remarks : Result V E) (given : Status) (h h' : List Event)
-      → IsFromFiles words before.contents before.read_faults after.read_faults (Ok lines)
-      → IfOk remarks (λ r. PlaysTo (given_of before.is_told before.store) start lines
-      before.link_faults after.link_faults (record { history = h'; remarks = items r }))
+      (remarks : Result V E) (status : Status) (h h' : List Event)
+      → IfOk remarks (λ r. (jobs : List PlainJob)
+      × PlaysTo given start lines before.link_faults after.link_faults
+      (record { history = h'; hand = jobs; remarks = items r }))
       → h ≡ h'
       → MatchResult remarks
       (λ r. IsWritten before.written after.written before.write_faults after.write_faults
-      (play_text (record { history = h'; remarks = items r })) Whole given)
-      (λ e. (given ≡ NoMemory) × (after.written ≡ before.written))
-      → Ends words before after given h
-  ends-played items lines (Ok r) given h h' files plays same written = record {
-    ending = record { status = Whole; play = record { history = h'; remarks = items r } };
+      (text_with h' (items r)) Whole status)
+      (λ e. (status ≡ NoMemory) × (after.written ≡ before.written))
+      → Ends given (Ok lines) before after status h
+  ends-played items lines (Ok r) status h h' plays same written = record {
+    ending = record {
+      status = Whole;
+      play = record { history = h'; hand = plays.0; remarks = items r };
+    };
     decided = inr (record {
-      log = files.log;
-      script = files.script;
-      answers = files.answers;
-      asked = plays.asked;
-      causes = plays.causes;
-      decided = ap (λ (l : Result (List PlayLine) Status).
-          ending_after (given_of before.is_told before.store) l plays.asked) files.lines
-          ∙ ap (λ (p : Play). record { status = Whole; play = p }) plays.end;
+      asked = plays.1.asked;
+      causes = plays.1.causes;
+      decided = ap (λ (p : Play). record { status = Whole; play = p }) plays.1.end;
     });
     history_is = same;
     output = subst (λ (t : List ℕ). IsWritten before.written after.written before.write_faults
-        after.write_faults t Whole given)
-        (play-output (record { history = h'; remarks = items r })) written;
+        after.write_faults t Whole status)
+        (play-output (record { history = h'; hand = plays.0; remarks = items r })) written;
   }
-  ends-played items lines (Err e) given h h' files plays same written = record {
-    ending = record { status = Whole; play = record { history = h'; remarks = [] } };
+  ends-played items lines (Err e) status h h' plays same written = record {
+    ending = record { status = Whole; play = record { history = h'; hand = []; remarks = [] } };
     decided = inl written.0;
     history_is = same;
     output = unwritten before.written after.written before.write_faults after.write_faults
-        (output_of (record { status = Whole; play = record { history = h'; remarks = [] } }))
-        given written.0 written.1;
+        (output_of (record { status = Whole; play = record { history = h'; hand = []; remarks = [] } }))
+        status written.0 written.1;
   }
 
 -- ---- from what a play keeps
 
 -- a history that is kept is sound over a link that tells its store, and orderly
-pub record KeepsPromise (told : Bool) (store store' : Broker) (h : List Event) : Type 0 where
-  pub legal : IsLegal (given_of told store) h
-  pub sound : told ≡ true → IsSound (given_of told store) h
-  pub orderly : IsOrderly (given_of told store) h
-  pub stored : told ≡ true → In (kept_for store' 0) (may_store (given_of told store) h 0)
-  pub others : told ≡ true → StoresOnly (has_log (given_of told store)) store store'
-
-pub keeps-promise : (told : Bool) (store store' : Broker) (h h' : List Event)
-    → IsKept (given_of told store) store store' h → h' ≡ h → KeepsPromise told store store' h'
-keeps-promise told store store' h h' is same =
-    let legal : IsLegal (given_of told store) h' =
-    subst (IsLegal (given_of told store)) (sym same) is.legal in
+pub plays-kept : (given : Given) (lines : Result (List PlayLine) Status) (before after : Outside)
+    (status : Status) (h h' : List Event) → IsKept given before.store after.store h' → h ≡ h'
+    → Ends given lines before after status h → Plays given lines before after status h
+plays-kept given lines before after status h h' is same ends =
+    let legal : IsLegal given h = subst (IsLegal given) (sym same) is.legal in
     record {
       legal = legal;
-      sound = λ t. is_sound (given_of told store) h' t legal;
-      orderly = is_orderly (given_of told store) h' legal;
-      stored = λ t. subst
-          (λ (k : List Event). In (kept_for store' 0) (may_store (given_of told store) k 0))
-          (sym same) (is.stored t 0 refl);
+      sound = λ told. is_sound given h told legal;
+      orderly = is_orderly given h legal;
+      stored = λ told p log. subst
+          (λ (k : List Event). In (kept_for after.store p) (may_store given k p))
+          (sym same) (is.stored told p log);
       others = is.others;
+      ends = ends;
     }
 
-pub keeps-promise-none : (told : Bool) (store : Broker) (h : List Event) → h ≡ []
-    → KeepsPromise told store store h
-keeps-promise-none told store h none =
-    keeps-promise told store store [] h (kept-at-start told store) none
+-- a play that did not begin
+pub plays-none : (setup : Setup) (logs : List (Option (List Record)))
+    (lines : Result (List PlayLine) Status) (before after : Outside) (s status : Status)
+    (h : List Event) → IsLegal (given_by setup logs [] before.is_told (kept_for before.store)) []
+    → after.store ≡ before.store → (s ≡ NoMemory) ⊎ (lines ≡ Err s) → h ≡ []
+    → IsWritten before.written after.written before.write_faults after.write_faults
+    (fault_line s) s status → (s ≡ NoMemory → status ≡ NoMemory)
+    → Plays (given_by setup logs [] before.is_told (kept_for before.store)) lines before after
+    status h
+plays-none setup logs lines before after s status h legal same is none written memory =
+    plays-kept (given_by setup logs [] before.is_told (kept_for before.store)) lines before after
+    status h []
+    (subst (λ (b : Broker). IsKept (given_by setup logs [] before.is_told (kept_for before.store))
+    before.store b []) (sym same) (kept-at-start setup logs before.is_told before.store legal))
+    none
+    (ends-unplayed (given_by setup logs [] before.is_told (kept_for before.store)) before after
+    lines s status h is none written memory)
+
+-- a play with the same setup, logs and lines
+pub plays-along : (setup setup' : Setup) (logs logs' : List (Option (List Record)))
+    (lines lines' : Result (List PlayLine) Status) (before after : Outside) (status : Status)
+    (h : List Event) → setup ≡ setup' → logs ≡ logs' → lines ≡ lines'
+    → Plays (given_by setup logs [] before.is_told (kept_for before.store)) lines before after
+    status h
+    → Plays (given_by setup' logs' [] before.is_told (kept_for before.store)) lines' before after
+    status h
+plays-along setup setup' logs logs' lines lines' before after status h set are lines_are plays =
+    subst (λ (s : Setup). Plays (given_by s logs' [] before.is_told (kept_for before.store)) lines'
+    before after status h) set
+    (subst (λ (l : List (Option (List Record))).
+    Plays (given_by setup l [] before.is_told (kept_for before.store)) lines' before after status h)
+    are
+    (subst (λ (l : Result (List PlayLine) Status).
+    Plays (given_by setup logs [] before.is_told (kept_for before.store)) l before after status h)
+    lines_are plays))
+
+-- what a step with a status says of the lines
+pub status-of : {A : Type 0} (lines : Result (List PlayLine) Status) (s : Status)
+    → ◌≡◌ {A = Result A Status} (Err s) (Err NoMemory)
+    ⊎ ◌≡◌ {A = Result (List PlayLine) Status} (Err s) lines
+    → (s ≡ NoMemory) ⊎ (lines ≡ Err s)
+status-of lines s (inl is) = inl (status-is s NoMemory is)
+status-of lines s (inr is) = inr (sym is)
+
+-- ---- a call of the program
+
+module _ (words : List (List ℕ)) (files files' : FilesSeen) (before after : Outside) where
+  -- the files were read, and this came of them
+  pub call-played : (texts : FileTexts) (status : Status) (h : List Event)
+      → IsFromFiles words files.contents files.faults files'.faults (Ok texts)
+      → Plays (given_of (logs_of texts.logs) before.is_told before.store) (lines_behind texts)
+      before after status h
+      → IsCall words files files' before after status h
+  call-played texts status h from plays = record {
+    reads = from.reads;
+    answers = from.answers;
+    plays = plays-along default_setup default_setup (logs_of texts.logs)
+        (logs_read from.reads.logs) (lines_behind texts) (lines_to_play words from.reads) before
+        after status h refl
+        (sym (logs-read-are 0 from.reads.logs texts.logs
+        (files-logs words from.reads texts from.texts)))
+        (sym (ap (λ (r : Result FileTexts Status). r >>= lines_behind) from.texts)) plays;
+  }
+
+  -- the files were not read, or memory was wanting for it
+  pub call-unplayed : {A : Type 0} (s status : Status) (h : List Event)
+      → ◌≡◌ {A = Result A Status} (Err s) (Err NoMemory)
+      ⊎ IsFromFiles words files.contents files.faults files'.faults (Err s)
+      → after.store ≡ before.store → h ≡ []
+      → IsWritten before.written after.written before.write_faults after.write_faults
+      (fault_line s) s status → (s ≡ NoMemory → status ≡ NoMemory)
+      → IsCall words files files' before after status h
+  call-unplayed s status h (inl is) same none written memory =
+      let any = any-answers (files_of words) files.contents files.faults files'.faults in
+      record {
+        reads = any.0;
+        answers = any.1;
+        plays = plays-none default_setup (logs_read any.0.logs) (lines_to_play words any.0) before
+            after s status h (logs-rise any.0.logs) same (inl (status-is s NoMemory is)) none
+            written memory;
+      }
+  call-unplayed s status h (inr from) same none written memory = record {
+    reads = from.reads;
+    answers = from.answers;
+    plays = plays-none default_setup (logs_read from.reads.logs) (lines_to_play words from.reads)
+        before after s status h (logs-rise from.reads.logs) same
+        (inr (ap (λ (r : Result FileTexts Status). r >>= lines_behind) from.texts)) none written
+        memory;
+  }

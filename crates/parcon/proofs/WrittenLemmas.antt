@@ -10,7 +10,7 @@ use Rattle.pc_print.specs.Line.{line_of, text_of}
 use Rattle.pc_world.specs.World.{HasRisen}
 use Rattle.pc_world.specs.declared.sink.SinkFailed.{SinkFailed}
 use Rattle.parcon.specs.declared.remark.Remark.{Remark}
-use Rattle.parcon.specs.Ending.{remark_line, play_text, fault_line}
+use Rattle.parcon.specs.Ending.{remark_line, text_with, fault_line}
 use Rattle.parcon.specs.declared.status.Status.{Status}
 use Rattle.parcon.specs.declared.status.Status.TheVariants.{SinkFault, NoMemory}
 use Rattle.parcon.specs.declared.output.OutputFault.{OutputFault}
@@ -161,11 +161,11 @@ text_of-lines (e ∷ h) =
     ∙ ap (λ (x : List ℕ). x ++ line_of e) (text_of-lines h)
 
 -- the lines of a journal's events, oldest first, and then the remarks are the text of the play
-pub play_text-lines : (events : List Event) (h : List Event) (remarks : List Remark)
+pub text_with-lines : (events : List Event) (h : List Event) (remarks : List Remark)
     → events ≡ reverse h
     → flat_map line_of events ++ flat_map remark_line remarks
-    ≡ play_text (record { history = h; remarks = remarks })
-play_text-lines events h remarks is =
+    ≡ text_with h remarks
+text_with-lines events h remarks is =
     ap (λ (x : List ℕ). x ++ flat_map remark_line remarks)
     (ap (flat_map line_of) is ∙ text_of-lines h)
 

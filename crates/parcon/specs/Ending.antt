@@ -2,6 +2,7 @@
 use Rattle.std.specs.Prelude.{ℕ, List, [], ◌∷◌, ◌++◌, Result, Ok, Err, codes}
 use Rattle.std.specs.Fmt.{decimal, signed_decimal}
 use Rattle.std.specs.List.{flat_map}
+use Rattle.pc_model.specs.declared.event.Event.{Event}
 use Rattle.pc_model.specs.declared.map_fault.MapFault.{MapFault}
 use Rattle.pc_model.specs.declared.map_fault.MapFault.TheVariants as map
 use Rattle.pc_model.specs.Given.{Given}
@@ -12,13 +13,14 @@ use Rattle.pc_offset_client.specs.declared.fault.ClientFault.{ClientFault}
 use Rattle.pc_offset_client.specs.declared.fault.ClientFault.TheVariants as client
 use Rattle.pc_engine.specs.declared.fault.EngineFault.{EngineFault}
 use Rattle.pc_engine.specs.declared.fault.EngineFault.TheVariants as engine
+use Rattle.parcon.specs.declared.remark.Notice.{Notice}
+use Rattle.parcon.specs.declared.remark.Notice.TheVariants.{Refused, NoJob, AtEnd, Stranger}
 use Rattle.parcon.specs.declared.remark.Remark.{Remark}
 use Rattle.parcon.specs.declared.status.Status.{Status}
 use Rattle.parcon.specs.declared.status.Status.TheVariants as status
 use Rattle.parcon.specs.declared.status.LimitKind.{LimitKind}
-use Rattle.parcon.specs.declared.status.LimitKind.TheVariants.{FileBytes, ScriptLines}
+use Rattle.parcon.specs.declared.status.LimitKind.TheVariants.{FileBytes, LogBytes, Records, ScriptLines}
 use Rattle.parcon.specs.LogFault.{log_line, fault_words}
-use Rattle.parcon.specs.Reading.{ReadAnswer, lines_to_play}
 use Rattle.parcon.specs.Play.{Asked, Play, start, played}
 
 -- the status of a play, its history, the newest event first, and its remarks
@@ -30,14 +32,11 @@ pub record Ending : Type 0 where
 abbrev pub ends : Status → Ending
 ends s = record { status = s; play = start }
 
-abbrev pub ending_after : Given → Result (List PlayLine) Status → List Asked → Ending
-ending_after given (Ok lines) asked =
+-- the ending of the play of these lines, whose link did this, or of what keeps it from beginning
+abbrev pub ending_of : Given → Result (List PlayLine) Status → List Asked → Ending
+ending_of given (Ok lines) asked =
     record { status = status.Whole; play = played given start lines asked }
-ending_after given (Err s) asked = ends s
-
--- the ending of a play with these words, whose reads answered so, and whose link did this
-abbrev pub ending_of : Given → List (List ℕ) → ReadAnswer → ReadAnswer → List Asked → Ending
-ending_of given words log script asked = ending_after given (lines_to_play words log script) asked
+ending_of given (Err s) asked = ends s
 
 -- ---- remarks
 
@@ -81,9 +80,16 @@ refusal_words engine.NoMemory = codes "no-memory" ∷ []
 abbrev pub words_at : ℕ → List (List ℕ) → List ℕ
 words_at n words = spaced (codes "line" ∷ (decimal n ++ 58 ∷ []) ∷ words) ++ 10 ∷ []
 
+-- the words of what is remarked
+abbrev pub notice_words : Notice → List (List ℕ)
+notice_words (Refused fault) = refusal_words fault
+notice_words NoJob = codes "none" ∷ []
+notice_words AtEnd = codes "at-end" ∷ []
+notice_words Stranger = codes "stranger" ∷ []
+
 -- the line of a remark
 unfoldable pub remark_line : Remark → List ℕ
-remark_line remark = words_at remark.line (refusal_words remark.fault)
+remark_line remark = words_at remark.line (notice_words remark.notice)
 
 -- ---- fault lines, and the numbers of the statuses
 
@@ -100,15 +106,21 @@ status_number (status.NotBuilt line) = 99
 
 abbrev pub limit_name : LimitKind → List ℕ
 limit_name FileBytes = codes "file-bytes"
+limit_name LogBytes = codes "log-bytes"
+limit_name Records = codes "records"
 limit_name ScriptLines = codes "script-lines"
 
 -- the line of a fault's words, with its line feed
 abbrev pub line_of_words : List (List ℕ) → List ℕ
 line_of_words words = spaced words ++ 10 ∷ []
 
+-- the text of a history and of remarks
+abbrev pub text_with : List Event → List Remark → List ℕ
+text_with h remarks = text_of h ++ flat_map remark_line remarks
+
 -- the output of a play: its history and its remarks
 abbrev pub play_text : Play → List ℕ
-play_text play = text_of play.history ++ flat_map remark_line play.remarks
+play_text play = text_with play.history play.remarks
 
 -- the fault line of a status, where it has one
 unfoldable pub fault_line : Status → List ℕ

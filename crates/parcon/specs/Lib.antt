@@ -1,5 +1,7 @@
 pub mod Command
 pub mod Reading
+pub mod Plan
+pub mod Hand
 pub mod Play
 pub mod LogFault
 pub mod Ending

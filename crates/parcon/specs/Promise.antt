@@ -1,5 +1,5 @@
--- The promise of the program: how a play ends, whatever its words, its files, its link and its sink.
-use Rattle.std.specs.Prelude.{ℕ, ◌≡◌, ◌⊎◌, Bool, true, List, [], Option, refl, IsTrue, is_none}
+-- The promise of the program: how a play ends, whatever its words, files, link and sink are.
+use Rattle.std.specs.Prelude.{ℕ, ◌≡◌, ◌⊎◌, Bool, true, List, [], Option, Result, refl, IsTrue, is_none}
 use Rattle.std.specs.List.{AllByRecursion}
 use Rattle.pc_model.specs.declared.event.Event.{Event}
 use Rattle.pc_model.specs.declared.setup.Setup.{Setup}
@@ -7,15 +7,20 @@ use Rattle.pc_model.specs.Defaults.{default_settings}
 use Rattle.pc_model.specs.Ranges.{settings_fault}
 use Rattle.pc_model.specs.Given.{Given, has_log}
 use Rattle.pc_model.specs.Lawful.{IsLegal}
+use Rattle.pc_model.specs.Record.{Record}
+use Rattle.pc_model.specs.Sound.{IsOrderly, IsSound}
 use Rattle.pc_model.specs.Stored.{may_store}
 use Rattle.pc_laws.specs.Lists.{In}
 use Rattle.pc_model.specs.Broker.{Broker}
 use Rattle.pc_offset_client.specs.Client.{kept_for}
+use Rattle.pc_script.specs.declared.play.PlayLine.{PlayLine}
 use Rattle.pc_engine.specs.Effect.{StoresOnly}
 use Rattle.pc_engine.specs.Engine.{given_by}
 use Rattle.parcon.specs.declared.status.Status.{Status}
 use Rattle.parcon.specs.declared.status.Status.TheVariants.{NoMemory}
-use Rattle.parcon.specs.Reading.{ReadAnswer, AreAnswers}
+use Rattle.parcon.specs.Command.{files_of}
+use Rattle.parcon.specs.Reading.{AreAnswers, Reads}
+use Rattle.parcon.specs.Plan.{lines_to_play, logs_read}
 use Rattle.parcon.specs.Play.{Asked, HasCause}
 use Rattle.parcon.specs.Ending.{Ending, ending_of, output_of}
 use Rattle.parcon.specs.Written.{IsWritten}
@@ -41,45 +46,69 @@ default_setup = record {
   in_range = default_in_range;
 }
 
--- what a play is given: that setup, one empty log, and for its start what the link's broker stores
-abbrev pub given_of : Bool → Broker → Given
-given_of told store = given_by default_setup 1 [] told (kept_for store)
+-- what a play over these logs is given where nothing else is said: that setup, and for its start
+-- what the link's broker stores
+abbrev pub given_of : List (Option (List Record)) → Bool → Broker → Given
+given_of logs told store = given_by default_setup logs [] told (kept_for store)
 
--- the outside at a moment, as far as it is told: what the files hold, what the link's broker
--- stores, what stands in the sink, and how often each of them has failed
-pub record Outside : Type 0 where
+-- the files at a moment: what they hold, as far as it is told, and how often reads have failed
+pub record FilesSeen : Type 0 where
   pub contents : List ℕ → Option (List ℕ)
-  pub read_faults : ℕ
+  pub faults : ℕ
+
+-- the link and the sink at a moment: what the link's broker stores and what stands in the sink, as
+-- far as it is told, and how often each of them has failed
+pub record Outside : Type 0 where
   pub is_told : Bool
   pub store : Broker
   pub link_faults : ℕ
   pub written : Option (List ℕ)
   pub write_faults : ℕ
 
--- the ending of a play with these words, by what its files and its link did from the one moment to
--- the other
-pub record IsEnding (words : List (List ℕ)) (before after : Outside) (ending : Ending) : Type 0 where
-  -- what the reads of the log and of the script answered
-  pub log : ReadAnswer
-  pub script : ReadAnswer
-  pub answers : AreAnswers words before.contents before.read_faults after.read_faults log script
+-- the ending of the play of these lines, or of what keeps it from beginning, by what its link did
+-- from the one moment to the other
+pub record IsEnding (given : Given) (lines : Result (List PlayLine) Status) (before after : Outside)
+    (ending : Ending) : Type 0 where
   -- what the link did at each line; it failed only where its count of faults rose
   pub asked : List Asked
   pub causes : AllByRecursion (HasCause before.link_faults after.link_faults) asked
-  -- the ending that these decide
-  pub decided : ending_of (given_of before.is_told before.store) words log script asked ≡ ending
+  -- the ending that this decides
+  pub decided : ending_of given lines asked ≡ ending
 
--- how a call of the program ends: with the ending of its play, of which the journal is the history
--- and all output is written, unless the sink failed or memory ran out, and then the first bytes of
--- the output are
-pub record Ends (words : List (List ℕ)) (before after : Outside) (status : Status)
-    (history : List Event) : Type 0 where
+-- how a play ends: with its ending, of which the journal is the history and all output is written,
+-- unless the sink failed or memory ran out, and then the first bytes of the output are
+pub record Ends (given : Given) (lines : Result (List PlayLine) Status) (before after : Outside)
+    (status : Status) (history : List Event) : Type 0 where
   pub ending : Ending
   -- for want of memory the ending may be any of that history
-  pub decided : (status ≡ NoMemory) ⊎ IsEnding words before after ending
+  pub decided : (status ≡ NoMemory) ⊎ IsEnding given lines before after ending
   pub history_is : history ≡ ending.play.history
   pub output : IsWritten before.written after.written before.write_faults after.write_faults
       (output_of ending) ending.status status
+
+-- what a play keeps, and how it ends
+pub record Plays (given : Given) (lines : Result (List PlayLine) Status) (before after : Outside)
+    (status : Status) (history : List Event) : Type 0 where
+  -- nothing is passed over that was not done, and one ordering key runs singly and in order
+  pub legal : IsLegal given history
+  pub sound : given.is_told ≡ true → IsSound given history
+  pub orderly : IsOrderly given history
+  -- the broker of a link that tells its store has, for the group of the client and each part with a
+  -- log, a commit that may be stored, and stores all else as before
+  pub stored : given.is_told ≡ true → (p : ℕ) → has_log given p ≡ true
+      → In (kept_for after.store p) (may_store given history p)
+  pub others : given.is_told ≡ true → StoresOnly (has_log given) before.store after.store
+  -- the status, the history and the output are those of the play
+  pub ends : Ends given lines before after status history
+
+-- how a call of the program with these words ends: what the reads of its files answered decides
+-- which lines are played over which logs, and that is the play
+pub record IsCall (words : List (List ℕ)) (files files' : FilesSeen) (before after : Outside)
+    (status : Status) (history : List Event) : Type 0 where
+  pub reads : Reads
+  pub answers : AreAnswers (files_of words) files.contents files.faults files'.faults reads
+  pub plays : Plays (given_of (logs_read reads.logs) before.is_told before.store)
+      (lines_to_play words reads) before after status history
 
 -- a history that is legal, and a link whose broker, where that is told, stores what it may: for a
 -- part with a log one of the commits that may be stored, and else what it stored

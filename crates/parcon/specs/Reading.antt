@@ -1,19 +1,15 @@
--- What the reads of a play's files answered, and the script that it plays.
-use Rattle.std.specs.Prelude.{ℕ, ◌≡◌, ◌≤◌, ◌<◌, Bool, true, false, not, List, [], ◌∷◌, length, find, Option, Some, None, option_map, Result, Ok, Err}
+-- What the reads of a play's files answered, and the bytes that they gave.
+use Rattle.std.specs.Prelude.{ℕ, ◌≡◌, ◌≤◌, ◌<◌, ◌+◌, nat_lt, List, [], ◌∷◌, length, map, ok_or, Option, Some, Result, Ok, Err, if◌then◌else◌}
+use Rattle.std.specs.List.{AllByRecursion}
 use Rattle.pc_world.specs.World.{HasRisen}
-use Rattle.pc_script.specs.declared.play.PlayAct.{PlayAct}
-use Rattle.pc_script.specs.declared.play.PlayAct.TheVariants.{Assign, Commit}
-use Rattle.pc_script.specs.declared.play.PlayLine.{PlayLine}
-use Rattle.pc_script.specs.declared.fault.ScriptReadFault.{ScriptReadFault}
-use Rattle.pc_script.specs.declared.fault.ScriptReadFault.TheVariants.{Bad, TooManyLines, NoMemory}
-use Rattle.pc_script.specs.PlayScript.{script_of}
-use Rattle.pc_batch.specs.Batch.{Placed}
-use Rattle.pc_cursor.specs.declared.fault.LogFault.{LogFault}
-use Rattle.pc_cursor.specs.Log.{all_batches}
+use Rattle.parcon.specs.declared.reading.LogText.{LogText}
+use Rattle.parcon.specs.declared.reading.Texts.{Texts}
 use Rattle.parcon.specs.declared.status.Status.{Status}
 use Rattle.parcon.specs.declared.status.Status.TheVariants as status
-use Rattle.parcon.specs.declared.status.LimitKind.TheVariants.{FileBytes, ScriptLines}
-use Rattle.parcon.specs.Command.{PlayFiles, command_of}
+use Rattle.parcon.specs.declared.status.LimitKind.TheVariants.{FileBytes, LogBytes}
+use Rattle.parcon.specs.Command.{PlayFiles, command_of, files_of}
+
+-- ---- what the reads answered
 
 -- what a read of a file answered
 pub data ReadAnswer : Type 0 where
@@ -31,64 +27,51 @@ IsAnswer told before after Failed = HasRisen before after
 IsAnswer told before after TooLong = (contents : List ℕ) → told ≡ Some contents
     → 268_435_456 < length contents
 
--- the answers that may come of the reads of a play's log, and then, where that gave bytes, of its
--- script
-pub record AreAnswers (words : List (List ℕ)) (told : List ℕ → Option (List ℕ)) (before after : ℕ)
-    (log script : ReadAnswer) : Type 0 where
-  pub of_log : (files : PlayFiles) → command_of words ≡ Some files
-      → IsAnswer (told files.log) before after log
-  pub of_script : (files : PlayFiles) → command_of words ≡ Some files
-      → (bytes : List ℕ) → log ≡ Bytes bytes
-      → IsAnswer (told files.script) before after script
+-- the name of a log's file, and what its read answered
+pub record FileRead : Type 0 where
+  pub name : List ℕ
+  pub answer : ReadAnswer
 
--- whether the program plays such a line
-abbrev pub is_built : PlayAct → Bool
-is_built (Assign part) = true
-is_built (Commit part) = true
-is_built act = false
+-- what the reads of a play's files answered: those of the logs, in the order of the parts, and that
+-- of the script. A read that was not made has an answer, too, which it could have had
+pub record Reads : Type 0 where
+  pub logs : List FileRead
+  pub script : ReadAnswer
 
--- the number of the first line that the program does not play
-abbrev pub first_unbuilt : List PlayLine → Option ℕ
-first_unbuilt lines = option_map (λ l. l.line) (find (λ l. not (is_built l.act)) lines)
+-- the answers that may come of the reads of logs with these names
+pub record AreLogAnswers (names : List (List ℕ)) (told : List ℕ → Option (List ℕ))
+    (before after : ℕ) (reads : List FileRead) : Type 0 where
+  pub named : map (λ read. read.name) reads ≡ names
+  pub each : AllByRecursion (λ read. IsAnswer (told read.name) before after read.answer) reads
 
--- the status of a script that does not read
-abbrev pub script_status : ScriptReadFault → Status
-script_status (Bad fault) = status.BadScript fault.line fault.kind
-script_status TooManyLines = status.Limit ScriptLines 1_000_000
-script_status NoMemory = status.NoMemory
+-- the answers that may come of the reads of a play's files
+pub record AreAnswers (files : PlayFiles) (told : List ℕ → Option (List ℕ)) (before after : ℕ)
+    (reads : Reads) : Type 0 where
+  pub logs : AreLogAnswers files.logs told before after reads.logs
+  pub script : IsAnswer (told files.script) before after reads.script
 
--- a script that is played, unless a line of it is not built
-abbrev pub built_lines : List PlayLine → Option ℕ → Result (List PlayLine) Status
-built_lines lines None = Ok lines
-built_lines lines (Some line) = Err (status.NotBuilt line)
+-- ---- the bytes that they gave
 
--- the lines of a script, unless it does not read
-abbrev pub lines_or_status : Result (List PlayLine) ScriptReadFault → Result (List PlayLine) Status
-lines_or_status (Ok lines) = Ok lines
-lines_or_status (Err fault) = Err (script_status fault)
+-- the name of a log's file, and its bytes
+pub record FileText : Type 0 where
+  pub name : List ℕ
+  pub bytes : List ℕ
 
--- the batches of a file's log, unless it does not read
-abbrev pub log_or_status : List ℕ → Result (List Placed) LogFault → Result (List Placed) Status
-log_or_status name (Ok batches) = Ok batches
-log_or_status name (Err fault) = Err (status.BadLog name fault.place fault.fault)
+-- the bytes of a play's files
+pub record FileTexts : Type 0 where
+  pub logs : List FileText
+  pub script : List ℕ
 
--- lines that are played over an empty log, unless one of them is not built
-abbrev pub built_over : List ℕ → List PlayLine → Result (List PlayLine) Status
-built_over [] lines = built_lines lines (first_unbuilt lines)
-built_over (b ∷ log) lines = Err (status.NotBuilt 0)
+abbrev pub text_of : LogText → FileText
+text_of text = record { name = text.name.now; bytes = text.bytes.items }
+
+abbrev pub texts_of : Texts → FileTexts
+texts_of texts = record { logs = map text_of texts.logs.items; script = texts.script.items }
 
 infixl 10 ◌>>=◌
 abbrev pub ◌>>=◌ : {X Y : Type 0} → Result X Status → (X → Result Y Status) → Result Y Status
 (Ok x) >>= f = f x
 (Err s) >>= f = Err s
-
--- the lines of a script behind a file's log
-abbrev pub lines_behind : List ℕ → List ℕ → List ℕ → Result (List PlayLine) Status
-lines_behind name log script =
-    do
-      batches ← log_or_status name (all_batches log)
-      lines ← lines_or_status (script_of script)
-      built_over log lines
 
 -- the bytes of a read, or the status that a read without bytes ends with
 abbrev pub answered : List ℕ → ReadAnswer → Result (List ℕ) Status
@@ -96,31 +79,64 @@ answered name (Bytes bytes) = Ok bytes
 answered name Failed = Err (status.ReadFault name)
 answered name TooLong = Err (status.Limit FileBytes 268_435_456)
 
--- the lines that a play is to go through, or the status that ends it before: of the words, of the
--- log's read, of the script's read, of the log, of the script, the first that applies
-abbrev pub lines_of_files : Option PlayFiles → ReadAnswer → ReadAnswer
-    → Result (List PlayLine) Status
-lines_of_files None log script = Err status.Usage
-lines_of_files (Some files) log script =
+-- bytes behind so many others, unless they are more than 268,435,456 together
+abbrev pub within : ℕ → List ℕ → Result (List ℕ) Status
+within before bytes = if nat_lt 268_435_456 (before + length bytes)
+    then Err (status.Limit LogBytes 268_435_456) else Ok bytes
+
+-- the bytes of a log behind others that have so many, or the status that its read ends with
+abbrev pub log_answered : ℕ → FileRead → Result FileText Status
+log_answered before read =
     do
-      l ← answered files.log log
-      s ← answered files.script script
-      lines_behind files.log l s
+      bytes ← answered read.name read.answer
+      fitting ← within before bytes
+      Ok (record { name = read.name; bytes = fitting })
 
-abbrev pub lines_to_play : List (List ℕ) → ReadAnswer → ReadAnswer → Result (List PlayLine) Status
-lines_to_play words log script = lines_of_files (command_of words) log script
+-- the bytes of logs behind others that have so many, or the status of the first that has one
+abbrev pub logs_answered : ℕ → List FileRead → Result (List FileText) Status
+logs_answered before [] = Ok []
+logs_answered before (read ∷ reads) =
+    do
+      text ← log_answered before read
+      texts ← logs_answered (before + length text.bytes) reads
+      Ok (text ∷ texts)
 
--- this is what comes of the words and of the answers of the reads, unless memory was wanting
-pub record IsFromFiles (words : List (List ℕ)) (told : List ℕ → Option (List ℕ)) (before after : ℕ)
-    (got : Result (List PlayLine) Status) : Type 0 where
-  pub log : ReadAnswer
-  pub script : ReadAnswer
-  pub answers : AreAnswers words told before after log script
-  pub lines : lines_to_play words log script ≡ got
+-- the bytes of the files that the words name, or the status that ends a play before all are read:
+-- of the words, of the reads of the logs, of the read of the script, the first that applies
+abbrev pub files_answered : List (List ℕ) → Reads → Result FileTexts Status
+files_answered words reads =
+    do
+      files ← ok_or (command_of words) status.Usage
+      logs ← logs_answered 0 reads.logs
+      script ← answered files.script reads.script
+      Ok (record { logs = logs; script = script })
 
--- the bytes or the status of one read, unless memory was wanting
+-- ---- what comes of a file, unless memory was wanting
+
+-- the bytes or the status of one read
 pub record IsFromFile (name : List ℕ) (told : Option (List ℕ)) (before after : ℕ)
     (got : Result (List ℕ) Status) : Type 0 where
   pub answer : ReadAnswer
   pub is_answer : IsAnswer told before after answer
   pub read : answered name answer ≡ got
+
+-- the same of the read of a log behind others that have so many bytes
+pub record IsFromLog (name : List ℕ) (told : Option (List ℕ)) (before after used : ℕ)
+    (got : Result FileText Status) : Type 0 where
+  pub answer : ReadAnswer
+  pub is_answer : IsAnswer told before after answer
+  pub text : log_answered used (record { name = name; answer = answer }) ≡ got
+
+-- the same of the reads of all logs
+pub record IsFromLogs (names : List (List ℕ)) (told : List ℕ → Option (List ℕ)) (before after : ℕ)
+    (got : Result (List FileText) Status) : Type 0 where
+  pub reads : List FileRead
+  pub answers : AreLogAnswers names told before after reads
+  pub texts : logs_answered 0 reads ≡ got
+
+-- the same of the reads of all files that the words name
+pub record IsFromFiles (words : List (List ℕ)) (told : List ℕ → Option (List ℕ)) (before after : ℕ)
+    (got : Result FileTexts Status) : Type 0 where
+  pub reads : Reads
+  pub answers : AreAnswers (files_of words) told before after reads
+  pub texts : files_answered words reads ≡ got

@@ -55,6 +55,8 @@ fn limit_name(which: LimitKind) -> &'static [u8]
 {
     match which {
         LimitKind::FileBytes => b"file-bytes",
+        LimitKind::LogBytes => b"log-bytes",
+        LimitKind::Records => b"records",
         LimitKind::ScriptLines => b"script-lines",
     }
 }

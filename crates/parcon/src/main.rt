@@ -3,12 +3,16 @@
 //! `offline` is the whole program but for the outside; its clauses are the promise.
 #![tactic(auto)]
 
+mod calls;
 mod command;
 mod fault_line;
+mod hand;
 mod log_fault;
 mod offline;
 mod output;
+mod plan;
 mod play;
+mod play_setup;
 mod reading;
 mod remark;
 mod status;
@@ -26,6 +30,12 @@ use std::process::ExitCode;
 /// How many parts the topic of the program's broker has.
 const PARTS: u32 = 1_024;
 
+#[cfg(test)]
+mod epochs_tests;
+#[cfg(test)]
+mod jobs_tests;
+#[cfg(test)]
+mod logs_tests;
 #[cfg(test)]
 mod tests;
 

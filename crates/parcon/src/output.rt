@@ -6,7 +6,7 @@ ghost use Rattle.std.specs.List.{flat_map};
 ghost use Rattle.pc_model.specs.declared.event.Event.{Event};
 ghost use Rattle.pc_print.specs.Line.{line_of};
 ghost use Rattle.pc_world.specs.World.{HasRisen};
-ghost use Rattle.parcon.specs.Ending.{fault_line, play_text, remark_line};
+ghost use Rattle.parcon.specs.Ending.{fault_line, remark_line, text_with};
 ghost use Rattle.parcon.specs.Written.{HasFront, IsOnItsWay, IsWritten, status_after, with_bytes};
 ghost use Rattle.parcon.specs.declared.status.Status.TheVariants.{NoMemory, Whole};
 ghost use Rattle.parcon.specs.declared.output.OutputFault.TheVariants.{NoMemory as Unstored, SinkFailed as Failed};
@@ -152,9 +152,9 @@ fn put_play<O: Sink>(
     remarks: &[Remark],
 ) -> Result<(), OutputFault>
     ensures whole { OnOk result (O.written out.new ≡ with_bytes (O.written out.old)
-        (play_text (record { history = journal.now.events; remarks = remarks.now }))) }
+        (text_with journal.now.events remarks.now)) }
     ensures front { HasFront (O.written out.old) (O.written out.new)
-        (play_text (record { history = journal.now.events; remarks = remarks.now })) }
+        (text_with journal.now.events remarks.now) }
     ensures failed { result ≡ Err Failed → HasRisen (O.faults out.old) (O.faults out.new) }
     ensures count { O.faults out.old ≤ O.faults out.new }
 {
@@ -198,10 +198,7 @@ pub(crate) fn tell_play<O: Sink>(
     remarks: &[Remark],
 ) -> Status
     ensures { IsWritten (O.written out.old) (O.written out.new) (O.faults out.old)
-        (O.faults out.new) (play_text (record {
-          history = journal.now.events;
-          remarks = remarks.now;
-        })) Whole result }
+        (O.faults out.new) (text_with journal.now.events remarks.now) Whole result }
 {
     let put = put_play(alloc, out, journal, remarks);
     status_after(Status::Whole, put)

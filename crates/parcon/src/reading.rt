@@ -1,80 +1,117 @@
-//! From the words to the script that is played, or to the status that ends the play before.
+//! The bytes of a play's files, or the status that ends the play before all of them are read.
 
-ghost use Rattle.std.specs.Prelude.{◌≡◌, ◌≤◌, ◌⊎◌, List, ℕ, Err, map, find, option_map, string_bytes};
+ghost use Rattle.std.specs.Prelude.{◌≡◌, ◌≤◌, ◌⊎◌, ◌+◌, List, ℕ, Err, IfOk, length, map, string_bytes};
 ghost use Rattle.std.specs.Result.{result_map_both};
-ghost use Rattle.pc_cursor.specs.Log.{all_batches};
-ghost use Rattle.pc_script.specs.PlayScript.{script_of};
-ghost use Rattle.parcon.specs.Command.{command_of};
-ghost use Rattle.parcon.specs.Reading.{IsFromFile, IsFromFiles, built_lines, built_over, first_unbuilt, is_built, lines_behind, log_or_status};
+ghost use Rattle.parcon.specs.Reading.{IsFromFile, IsFromFiles, IsFromLog, IsFromLogs, text_of, texts_of, within};
 ghost use Rattle.parcon.specs.declared.status.Status.TheVariants.{NoMemory};
 
 use crate::command::command;
 use crate::status::{LimitKind, Status};
-use pc_cursor::{CheckFault, Log};
 use pc_model::NameText;
-use pc_script::{PlayAct, PlayLine, PlayScript, read_play};
 use pc_world::{FILE_BYTES_MAX, Files, FilesFault};
 use std::alloc::Global;
 
-/// The script that the words ask to be played, or the status that ends the play before: of the
-/// words, of the read of the log, of that of the script, of the log, of the script, the first that
-/// applies.
-pub(crate) fn script_to_play<F: Files>(
+/// The most bytes that all logs may have together.
+const LOG_BYTES_MAX: u64 = 268_435_456;
+
+/// The bytes of a log's file, and its name.
+#[derive(Debug, Drop)]
+pub(crate) struct LogText<'a> {
+    pub(crate) name: &'a str,
+    pub(crate) bytes: Vec<u8>,
+}
+
+/// The bytes of a play's files.
+#[derive(Debug, Drop)]
+pub(crate) struct Texts<'a> {
+    /// The log at place k is that of part k.
+    pub(crate) logs: Vec<LogText<'a>>,
+    pub(crate) script: Vec<u8>,
+}
+
+/// The bytes of the files that the words name, or the status that ends the play before all are
+/// read: of the words, of the reads of the logs, of that of the script, the first that applies.
+pub(crate) fn read_files<'a, F: Files>(
     alloc: Global,
-    words: &[String],
+    words: &'a [String],
     files: &mut F,
-) -> Result<PlayScript, Status>
-    ensures { (result ≡ Err NoMemory) ⊎ IsFromFiles (map string_bytes words.now)
-        (F.told files.old) (F.faults files.old) (F.faults files.new) result }
+) -> Result<Texts<'a>, Status>
+    ensures texts { (result ≡ Err NoMemory) ⊎ IsFromFiles (map string_bytes words.now)
+        (F.told files.old) (F.faults files.old) (F.faults files.new)
+        (result_map_both texts_of (λ s. s) result) }
+    ensures few { IfOk result (λ texts. length texts.logs.items ≤ 1_024) }
 {
     let Some(names) = command(words) else {
         return Err(Status::Usage);
     };
-    let log = read(alloc, files, names.log)?;
+    let logs = read_logs(alloc, names.logs, files)?;
     let script = read(alloc, files, names.script)?;
-    lines_behind(alloc, names.log, log.as_slice(), script.as_slice())
+    Ok(Texts { logs, script })
 }
 
-/// The lines of a script behind a file's log.
-fn lines_behind(alloc: Global, name: &str, log: &[u8], script: &[u8]) -> Result<PlayScript, Status>
-    ensures { (result ≡ Err NoMemory) ⊎ (result ≡ lines_behind name.now log.now script.now) }
+/// The bytes of the logs.
+fn read_logs<'a, F: Files>(
+    alloc: Global,
+    names: &'a [String],
+    files: &mut F,
+) -> Result<Vec<LogText<'a>>, Status>
+    ensures texts { (result ≡ Err NoMemory) ⊎ IsFromLogs (map string_bytes names.now)
+        (F.told files.old) (F.faults files.old) (F.faults files.new)
+        (result_map_both (λ logs. map text_of logs.items) (λ s. s) result) }
+    ensures many { IfOk result (λ logs. length logs.items ≡ length names.now) }
+    ensures keeps { (n : List ℕ) → F.told files.new n ≡ F.told files.old n }
+    ensures count { F.faults files.old ≤ F.faults files.new }
 {
-    let _log = checked(alloc, name, log)?;
-    let script = read_play(alloc, script)?;
-    built_over(log, script)
-}
-
-/// A file's log, which has to read.
-fn checked<'a>(alloc: Global, name: &str, log: &'a [u8]) -> Result<Log<'a>, Status>
-    ensures { (result ≡ Err NoMemory)
-        ⊎ (result ≡ log_or_status name.now (all_batches log.now)) }
-{
-    match Log::check(alloc, log) {
-        Ok(log) => Ok(log),
-        Err(CheckFault::Bad(bad)) => Err(Status::BadLog {
-            name: NameText::from_str(alloc, name)?,
-            place: bad.place,
-            fault: bad.fault,
-        }),
-        Err(CheckFault::NoMemory) => Err(Status::NoMemory),
+    let mut logs = Vec::new(alloc);
+    let mut used = 0;
+    for name in names {
+        let log = read_log(alloc, files, name.as_str(), used)?;
+        used += log.bytes.len() as u64;
+        logs.push(log)?;
     }
+    Ok(logs)
 }
 
-/// The script, unless the program cannot play it over this log.
-fn built_over(log: &[u8], script: PlayScript) -> Result<PlayScript, Status>
-    ensures { result ≡ built_over log.now script }
+/// The bytes of a log behind others that have so many.
+fn read_log<'a, F: Files>(
+    alloc: Global,
+    files: &mut F,
+    name: &'a str,
+    used: u64,
+) -> Result<LogText<'a>, Status>
+    requires { used ≤ LOG_BYTES_MAX }
+    ensures text { (result ≡ Err NoMemory) ⊎ IsFromLog name.now (F.told files.old name.now)
+        (F.faults files.old) (F.faults files.new) used (result_map_both text_of (λ s. s) result) }
+    ensures fits { IfOk result (λ log. used + length log.bytes.items ≤ LOG_BYTES_MAX) }
+    ensures keeps { (n : List ℕ) → F.told files.new n ≡ F.told files.old n }
+    ensures count { F.faults files.old ≤ F.faults files.new }
 {
-    if log.is_empty() {
-        built(script)
+    let bytes = read(alloc, files, name)?;
+    let bytes = within(used, bytes)?;
+    Ok(LogText { name, bytes })
+}
+
+/// The bytes behind so many others, unless they are too many together.
+fn within(used: u64, bytes: Vec<u8>) -> Result<Vec<u8>, Status>
+    requires { used ≤ LOG_BYTES_MAX }
+    ensures value { result_map_both (λ b. b.items) (λ s. s) result ≡ within used bytes.items }
+    ensures fits { IfOk result (λ b. used + length b.items ≤ LOG_BYTES_MAX) }
+{
+    if bytes.len() as u64 <= LOG_BYTES_MAX - used {
+        Ok(bytes)
     } else {
-        Err(Status::NotBuilt { line: 0 })
+        Err(Status::Limit {
+            which: LimitKind::LogBytes,
+            number: LOG_BYTES_MAX,
+        })
     }
 }
 
 /// The bytes of a file.
 fn read<F: Files>(alloc: Global, files: &mut F, name: &str) -> Result<Vec<u8>, Status>
     ensures answer { (result ≡ Err NoMemory) ⊎ IsFromFile name.now (F.told files.old name.now)
-        (F.faults files.old) (F.faults files.new) (result_map_both (λ bytes. bytes.items) (λ s. s) result) }
+        (F.faults files.old) (F.faults files.new)
+        (result_map_both (λ bytes. bytes.items) (λ s. s) result) }
     ensures keeps { (n : List ℕ) → F.told files.new n ≡ F.told files.old n }
     ensures count { F.faults files.old ≤ F.faults files.new }
 {
@@ -90,31 +127,4 @@ fn read<F: Files>(alloc: Global, files: &mut F, name: &str) -> Result<Vec<u8>, S
         }),
         Err(FilesFault::NoMemory) => Err(Status::NoMemory),
     }
-}
-
-/// The script, unless the program cannot play one of its lines.
-fn built(script: PlayScript) -> Result<PlayScript, Status>
-    ensures { result ≡ built_lines script (first_unbuilt script) }
-{
-    match first_unbuilt(script.as_slice()) {
-        Some(line) => Err(Status::NotBuilt { line }),
-        None => Ok(script),
-    }
-}
-
-/// The number of the first line that the program cannot play.
-fn first_unbuilt(lines: &[PlayLine]) -> Option<u64>
-    ensures { result ≡ first_unbuilt lines.now }
-{
-    lines
-        .iter()
-        .find(|line| !is_built(line.act))
-        .map(|line| line.line)
-}
-
-/// Whether the program can play such a line.
-fn is_built(act: PlayAct) -> bool
-    ensures { result ≡ is_built act }
-{
-    matches!(act, PlayAct::Assign(_) | PlayAct::Commit(_))
 }

@@ -1,7 +1,7 @@
-//! Remarks: what a play says of the lines whose calls were refused.
+//! Remarks: what a play says of the lines whose calls were refused or added no event.
 
 ghost use Rattle.std.specs.Prelude.{◌≡◌, ◌++◌, ◌∷◌, OnOk, OnErr, codes};
-ghost use Rattle.parcon.specs.Ending.{client_words, map_words, remark_line, words_at};
+ghost use Rattle.parcon.specs.Ending.{client_words, map_words, refusal_words, remark_line, words_at};
 
 use pc_engine::EngineFault;
 use pc_model::MapFault;
@@ -10,12 +10,25 @@ use pc_print::Word::{Label, Name, Number, Signed};
 use pc_print::put_line;
 use std::alloc::AllocError;
 
-/// The refusal of a script's line.
+/// What is said of a script's line.
+#[derive(Clone, Copy, Debug, PartialEq, Eq)]
+pub(crate) enum Notice {
+    /// The engine refused the call.
+    Refused(EngineFault),
+    /// There was no job to take.
+    NoJob,
+    /// There was no record to poll.
+    AtEnd,
+    /// No job with the line's ticket is in hand.
+    Stranger,
+}
+
+/// What is said of the line of a script.
 #[derive(Clone, Copy, Debug, PartialEq, Eq)]
 pub(crate) struct Remark {
     /// The line's number in the script, from 1 on.
     pub(crate) line: u64,
-    pub(crate) fault: EngineFault,
+    pub(crate) notice: Notice,
 }
 
 /// Appends the line of a remark, with its line feed. Where memory is wanting `out` is as before.
@@ -25,7 +38,20 @@ pub(crate) fn put_remark(out: &mut Vec<u8>, remark: &Remark) -> Result<(), Alloc
     ensures err { OnErr result (out.new.items ≡ out.old.items) }
 {
     let n = remark.line;
-    match remark.fault {
+    match remark.notice {
+        Notice::Refused(fault) => put_refusal(out, n, fault),
+        Notice::NoJob => put_line(out, b"line", &[Label(n), Name(b"none")]),
+        Notice::AtEnd => put_line(out, b"line", &[Label(n), Name(b"at-end")]),
+        Notice::Stranger => put_line(out, b"line", &[Label(n), Name(b"stranger")]),
+    }
+}
+
+/// Appends the line of a refusal.
+fn put_refusal(out: &mut Vec<u8>, n: u64, fault: EngineFault) -> Result<(), AllocError>
+    ensures ok { OnOk result (out.new.items ≡ out.old.items ++ words_at n (refusal_words fault)) }
+    ensures err { OnErr result (out.new.items ≡ out.old.items) }
+{
+    match fault {
         EngineFault::Closed => put_line(out, b"line", &[Label(n), Name(b"closed")]),
         EngineFault::UnknownPart => put_line(out, b"line", &[Label(n), Name(b"unknown-part")]),
         EngineFault::AlreadyHeld => put_line(out, b"line", &[Label(n), Name(b"already-held")]),

@@ -5,13 +5,17 @@ ghost use Rattle.std.specs.Prelude.{◌≡◌};
 use pc_cursor::LogFaultKind;
 use pc_model::NameText;
 use pc_script::{ScriptKind, ScriptReadFault};
-use std::alloc::AllocError;
+use std::alloc::{AllocError, AllocFailed};
 
 /// What has a limit.
 #[derive(Clone, Copy, Debug, PartialEq, Eq)]
 pub enum LimitKind {
     /// The bytes of one file.
     FileBytes,
+    /// The bytes of all logs together.
+    LogBytes,
+    /// The records of all logs together.
+    Records,
     /// The lines of a script.
     ScriptLines,
 }
@@ -48,7 +52,7 @@ pub enum Status {
     },
     /// Memory ran out.
     NoMemory,
-    /// The program cannot play this line yet, or, at line 0, a log with bytes.
+    /// The program cannot play this line of the script yet.
     NotBuilt {
         line: u64,
     },
@@ -88,8 +92,18 @@ impl From<AllocError> for Status {
     }
 }
 
+impl<T: Drop> From<AllocFailed<T>> for Status {
+    ghost use Rattle.parcon.specs.declared.status.Status.TheVariants.{NoMemory};
+
+    ghost from_gives = { λ _ s. s ≡ NoMemory };
+
+    fn from(_e: AllocFailed<T>) -> Status {
+        Status::NoMemory
+    }
+}
+
 impl From<ScriptReadFault> for Status {
-    ghost use Rattle.parcon.specs.Reading.{script_status};
+    ghost use Rattle.parcon.specs.Plan.{script_status};
 
     ghost from_gives = { λ fault s. s ≡ script_status fault };
 

@@ -1,6 +1,7 @@
 //! Plays with the outside in memory.
 
-use crate::offline::{Ended, offline};
+use crate::offline::offline;
+use crate::play_setup::Ended;
 use pc_model::{Commit, MapText};
 use pc_offset_client::{Client, GROUP, TOPIC};
 use pc_offset_store::OffsetBroker;
@@ -9,13 +10,13 @@ use std::alloc::{AllocError, Global};
 use std::test::Fail;
 
 /// More than any output of these tests.
-const ROOM: u64 = 1024;
+pub(crate) const ROOM: u64 = 1024;
 
 /// A log, a script, the output of the play and the number of its status.
 type Play = (&'static [u8], &'static [u8], &'static [u8], u8);
 
 /// Plays over which nothing fails. Of the faults of an input the first in this order decides: a bad
-/// log, a bad line of the script, a log with bytes, a line that is not built.
+/// log, a bad line of the script, a line that is not built.
 const PLAYS: [Play; 11] = [
     (
         b"",
@@ -37,26 +38,21 @@ const PLAYS: [Play; 11] = [
         b"assign 0 epoch 1 at 0 map =\n",
         0,
     ),
-    (b"", b"assign 0\npoll 0 1\n", b"fault not-built 2\n", 99),
-    (
-        b"",
-        b"poll 0 1\nassign\n",
-        b"fault script 2 word-count\n",
-        5,
-    ),
+    (b"", b"assign 0\ntick 1\n", b"fault not-built 2\n", 99),
+    (b"", b"tick 1\nassign\n", b"fault script 2 word-count\n", 5),
     (b"", b"assign 1024\n", b"fault script 1 out-of-range\n", 5),
     (b"x", b"assign\n", b"fault log =a.log at 0 short 0 61\n", 4),
     (
         &THREE_RECORDS,
-        b"poll 0 1\nassign\n",
+        b"drain\nassign\n",
         b"fault script 2 word-count\n",
         5,
     ),
-    (&THREE_RECORDS, b"poll 0 1\n", b"fault not-built 0\n", 99),
+    (&THREE_RECORDS, b"close\n", b"fault not-built 1\n", 99),
 ];
 
 /// One batch with the records (0, "a", "x"), (1, "b", "yy") and (2, "a", "zzz").
-const THREE_RECORDS: [u8; 91] = [
+pub(crate) const THREE_RECORDS: [u8; 91] = [
     // baseOffset, batchLength, partitionLeaderEpoch, magic, crc
     0x00, 0x00, 0x00, 0x00, 0x00, 0x00, 0x00, 0x00, //
     0x00, 0x00, 0x00, 0x4F, 0x00, 0x00, 0x00, 0x00, 0x02, 0xD6, 0xFC, 0x11, 0xEE, //
@@ -125,15 +121,15 @@ const DAMAGED: [Damaged; 10] = [
 /// The numbers of the reads, of the link's calls and of the writes that fail, those of the link's
 /// calls that fail after they were handed on, and the room of the sink.
 #[derive(Clone, Copy, Debug)]
-struct Faults {
-    reads: &'static [u64],
-    calls: &'static [u64],
-    late: &'static [u64],
-    writes: &'static [u64],
-    room: u64,
+pub(crate) struct Faults {
+    pub(crate) reads: &'static [u64],
+    pub(crate) calls: &'static [u64],
+    pub(crate) late: &'static [u64],
+    pub(crate) writes: &'static [u64],
+    pub(crate) room: u64,
 }
 
-const NONE: Faults = Faults {
+pub(crate) const NONE: Faults = Faults {
     reads: &[],
     calls: &[],
     late: &[],
@@ -293,7 +289,7 @@ fn play_over<L: Link + Drop>(
 }
 
 /// Plays them over the broker of the topic.
-fn play(
+pub(crate) fn play(
     alloc: Global,
     words: &[&str],
     log: &[u8],
@@ -308,7 +304,7 @@ fn play(
     Ok(play_over(alloc, words, log, script, faults.reads, link, out)?)
 }
 
-const WORDS: [&str; 3] = ["play", "a.log", "a.script"];
+pub(crate) const WORDS: [&str; 3] = ["play", "a.log", "a.script"];
 
 #[test]
 fn plays(rt: HostRuntime) -> Result<(), Fail> {
@@ -384,7 +380,7 @@ type Stored = (
 );
 
 /// Plays over a broker that stores something. A late failure leaves the commit in the store, and an
-/// early one what stood there.
+/// early one what stood there. The last two are over a log with records.
 const STORED: [Stored; 5] = [
     (
         b"assign 0\ncommit 0\n",
@@ -450,7 +446,8 @@ fn the_store_has_what_may_be_stored(rt: HostRuntime) -> Result<(), Fail> {
             return Err(AllocError.into());
         };
         let mut out = MemorySink::new(rt.alloc(), ROOM, &[])?;
-        let ended = play_over(rt.alloc(), &WORDS, b"", script, &[], link, &mut out)?;
+        let log: &[u8] = if i < 3 { b"" } else { &THREE_RECORDS };
+        let ended = play_over(rt.alloc(), &WORDS, log, script, &[], link, &mut out)?;
         assert_eq!(rt; out.bytes(), output, "at {i}");
         assert_eq!(rt; ended.status.number(), 0, "at {i}");
         let mut client = Client::new(rt.alloc(), ended.link.into_link());
@@ -461,6 +458,8 @@ fn the_store_has_what_may_be_stored(rt: HostRuntime) -> Result<(), Fail> {
                 (stored, MAPS[i]),
                 "at {i}"
             );
+        } else {
+            assert_eq!(rt; ended.journal.len(), 0, "at {i}");
         }
     }
     Ok(())
@@ -520,11 +519,12 @@ fn a_link_that_tells_nothing(rt: HostRuntime) -> Result<(), Fail> {
 }
 
 /// Words that are no command.
-const NO_COMMANDS: [&[&str]; 8] = [
+const NO_COMMANDS: [&[&str]; 9] = [
     &[],
     &["play"],
     &["play", "a.log"],
-    &["play", "a.log", "a.script", "a.script"],
+    &["play", "a.log", "", "a.script"],
+    &["play", "a.log", "-a.log", "a.script"],
     &["run", "a.log", "a.script"],
     &["play", "", "a.script"],
     &["play", "a.log", "-"],

@@ -1,6 +1,6 @@
 //! The headers of a record: clauses see what is left of them as a list of keys and values.
 
-ghost use Rattle.std.specs.Prelude.{◌≡◌, ◌+◌, ◌<◌, ◌^◌, Ok, Err, IfOk, IfErr, length};
+ghost use Rattle.std.specs.Prelude.{◌≡◌, ◌+◌, ◌<◌, ◌^◌, Ok, Err, IfOk, IfErr, length, ◌↔◌, IsTrue};
 ghost use Rattle.std.specs.Option.{option_copied};
 ghost use Rattle.pc_batch.specs.Fields.{Reads};
 ghost use Rattle.pc_batch.specs.Headers.{header_at, after_headers, all_headers_at};
@@ -54,6 +54,18 @@ impl<'a> Headers<'a> {
             return Err(RecordKind::Leftover);
         }
         Ok(Headers { bytes, count })
+    }
+
+    /// Whether both have the same headers left, in the same order.
+    pub(crate) fn are_same(self, mut other: Headers<'_>) -> bool
+        ensures { IsTrue result ↔ (headers_left self.entry ≡ headers_left other.entry) }
+    {
+        for header in self {
+            if other.next() != Some(header) {
+                return false;
+            }
+        }
+        other.next().is_none()
     }
 }
 

@@ -1,6 +1,6 @@
 //! One record, read in place.
 
-ghost use Rattle.std.specs.Prelude.{◌≡◌, ◌≤◌, ◌<◌, ◌^◌, Ok, Err, IfOk, IfErr};
+ghost use Rattle.std.specs.Prelude.{◌≡◌, ◌≤◌, ◌<◌, ◌^◌, Ok, Err, IfOk, IfErr, ◌↔◌, IsTrue};
 ghost use Rattle.pc_bytes.specs.Fields.{Moves};
 ghost use Rattle.pc_batch.specs.Fields.{Reads};
 ghost use Rattle.pc_batch.specs.Record.{time_of, offset_of, body_at, record_at, plain, IsSound};
@@ -20,6 +20,20 @@ pub struct RecordRef<'a> {
     pub key: Option<&'a [u8]>,
     pub value: Option<&'a [u8]>,
     pub headers: Headers<'a>,
+}
+
+impl RecordRef<'_> {
+    /// Whether both records are the same: their offsets, times, keys, values and headers. A null
+    /// key or value is another than the empty one.
+    pub fn is_same(&self, other: &RecordRef<'_>) -> bool
+        ensures { IsTrue result ↔ (plain self.now ≡ plain other.now) }
+    {
+        self.offset == other.offset
+            && self.time == other.time
+            && self.key == other.key
+            && self.value == other.value
+            && self.headers.are_same(other.headers)
+    }
 }
 
 /// The record's time, from its delta.

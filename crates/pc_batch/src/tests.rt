@@ -205,6 +205,48 @@ fn headers_times_and_control(rt: HostRuntime) -> Result<(), Fail> {
     Ok(())
 }
 
+// Whether the last records of two changed logs are the same, where they read.
+fn are_same(one: &[(usize, u8)], other: &[(usize, u8)]) -> Option<bool> {
+    let (one, other) = (changed(one), changed(other));
+    let one = read_batch(&one, 0).ok()?.records().last()?;
+    let other = read_batch(&other, 0).ok()?.records().last()?;
+    Some(one.is_same(&other))
+}
+
+// The value is null, and there is the header "k" without a value.
+const HEADER: &[(usize, u8)] = &[(86, 1), (87, 2), (88, 2), (89, 0x6B), (90, 1)];
+
+#[test]
+fn records_differ_in_each_field(rt: HostRuntime) {
+    let cases: [(&[(usize, u8)], &[(usize, u8)], bool); 9] = [
+        (&[], &[], true),
+        (HEADER, HEADER, true),
+        (&[], &[(7, 1)], false),
+        (&[], &[(82, 2)], false),
+        (&[], &[(85, 0x62)], false),
+        (&[], &[(88, 0x7B)], false),
+        // The value is empty, the header has another key, or an empty value.
+        (
+            HEADER,
+            &[(86, 0), (87, 2), (88, 2), (89, 0x6B), (90, 1)],
+            false,
+        ),
+        (
+            HEADER,
+            &[(86, 1), (87, 2), (88, 2), (89, 0x6C), (90, 1)],
+            false,
+        ),
+        (
+            HEADER,
+            &[(86, 1), (87, 2), (88, 2), (89, 0x6B), (90, 0)],
+            false,
+        ),
+    ];
+    for (one, other, same) in cases {
+        assert_eq!(rt; are_same(one, other), Some(same), "{one:?} and {other:?}");
+    }
+}
+
 #[test]
 fn a_second_batch(rt: HostRuntime) -> Result<(), Fail> {
     let mut log = [0; 182];

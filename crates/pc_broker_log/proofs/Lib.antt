@@ -1,3 +1,4 @@
 pub mod NextRecords
 pub mod PolledLemmas
 pub mod TableLemmas
+pub mod RecordAt

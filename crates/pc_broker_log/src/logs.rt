@@ -1,8 +1,9 @@
 //! The logs of all parts. Clauses see the records of each.
 
-ghost use Rattle.std.specs.Prelude.{◌≡◌, ◌-◌, ◌<◌, ◌≤◌, ◌++◌, true, [], length, take, replicate, Some, None, Err, is_some, option_map, unwrap_or, OnOk, OnErr, IfErr, IfSome};
+ghost use Rattle.std.specs.Prelude.{◌≡◌, ◌-◌, ◌<◌, ◌≤◌, ◌++◌, true, [], length, take, replicate, Some, None, Err, is_some, option_map, unwrap_or, OnOk, OnErr, IfErr, IfSome, find, ◌==◌};
 ghost use Rattle.std.specs.List.{list_all};
 ghost use Rattle.pc_model.specs.Given.{rises_from};
+ghost use Rattle.pc_batch.specs.Record.{plain};
 ghost use Rattle.pc_cursor.specs.Cursor.{not_below};
 ghost use Rattle.pc_cursor.specs.Log.{contents_of, records_of};
 ghost use Rattle.pc_broker_log.specs.declared.fault.AddFault.{AddFault};
@@ -11,6 +12,7 @@ ghost use Rattle.pc_broker_log.specs.Logs.{log_at, record_total, add_refusal, wi
 
 use crate::fault::AddFault;
 use crate::polled::Polled;
+use pc_batch::RecordRef;
 use pc_cursor::Log;
 use std::alloc::{AllocError, Global};
 use std::marker::Model;
@@ -159,5 +161,16 @@ impl<'a> BrokerLogs<'a> {
             most: log.records(),
             upto: last,
         })
+    }
+
+    /// The part's record at the offset. None where the part has no log or no record is there.
+    pub fn record(&self, part: u32, offset: u64) -> Option<RecordRef<'_>>
+        ensures { option_map plain result
+            ≡ find (λ r. r.offset == offset) (unwrap_or (log_at self.now part) []) }
+    {
+        let mut cursor = self.log(part)?.cursor();
+        cursor.seek(offset);
+        let record = cursor.next()?;
+        (record.offset == offset).then_some(record)
     }
 }

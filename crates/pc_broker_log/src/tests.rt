@@ -136,6 +136,29 @@ fn polls(rt: HostRuntime) -> Result<(), Fail> {
     Ok(())
 }
 
+// The length of the value of the part's record at the offset.
+fn length_at(logs: &BrokerLogs<'_>, part: u32, offset: u64) -> Option<usize> {
+    Some(logs.record(part, offset)?.value?.len())
+}
+
+#[test]
+fn records_at_offsets(rt: HostRuntime) -> Result<(), Fail> {
+    let bytes = six_records();
+    let logs = one_log(rt.alloc(), 3, &bytes)?;
+    let cases: [(u32, u64, Option<usize>); 6] = [
+        (3, 0, Some(1)),
+        (3, 2, Some(3)),
+        (3, 3, None),
+        (3, 21, Some(2)),
+        (3, 23, None),
+        (4, 0, None),
+    ];
+    for (part, offset, len) in cases {
+        assert_eq!(rt; length_at(&logs, part, offset), len, "{offset} of {part}");
+    }
+    Ok(())
+}
+
 #[test]
 fn known_records(rt: HostRuntime) -> Result<(), Fail> {
     let bytes = six_records();

@@ -1,11 +1,12 @@
 -- The commit of marks in each of its cases.
-use Rattle.std.proofs.Common.{◌≡◌, ℕ, suc, ◌≤◌, Bool, List, [], ◌∷◌, length, Option, Some, None, refl, sym, ap, arith}
+use Rattle.std.proofs.Common.{◌≡◌, ℕ, suc, ◌≤◌, inl, inr, Bool, List, [], ◌∷◌, length, Option, Some, None, refl, sym, ap, arith}
+use Rattle.std.specs.Prelude.{nat_le}
 use Rattle.std.specs.Option.{option_map}
 use Rattle.pc_model.specs.declared.commit.SizedCommit.{SizedCommit}
 use Rattle.pc_model.specs.BestMap.{BestMap, best_map, limited, shortest_text}
 use Rattle.pc_model.specs.Marks.{Mark, bits_at, commit_at, position_at}
 use Rattle.pc_choice.specs.Sizes.{sized}
-use Rattle.std.proofs.lemmas.Bool.{le-leb}
+use Rattle.std.proofs.lemmas.Bool.{cases_Bool, le-leb, leb-true}
 use Rattle.std.proofs.lemmas.Option.{same_Some, some_pair_parts}
 use Rattle.pc_choice.proofs.ChoiceLemmas.{HasNoLetter-best_map}
 use Rattle.pc_partition.specs.declared.lengths.Lengths.{Lengths}
@@ -23,6 +24,20 @@ pub commit-is : (c : SizedCommit) (limit b : ℕ) (marks : List Mark) (best : Be
     → c.commit.position ≡ position_at b marks → c.commit.map ≡ best.text → c.size ≡ best.size → c ≡ commit_at limit b marks
 commit-is c limit b marks best is position text size =
     rw (← position, ← text, ← size) at (sym (commit_at-best limit b marks best is))
+
+-- ---- the text of the best map is within the limit
+
+limited-short : (limit : ℕ) (o : Option (ℕ × List ℕ)) → length (limited limit o).text ≤ limit
+limited-short limit None = omega arith
+limited-short limit (Some best) = elim (cases_Bool (nat_le (length best.1) limit)) [
+  | inl fits ↦ rw fits (leb-true (length best.1) limit fits)
+  | inr long ↦ rw long (let le : 0 ≤ limit = omega arith in le)
+]
+
+pub best_map-short : (bits : List Bool) (limit : ℕ) → length (best_map bits limit).text ≤ limit
+unfolding best_map
+best_map-short [] limit = let le : 0 ≤ limit = omega arith in le
+best_map-short (bit ∷ bits) limit = limited-short limit (shortest_text (bit ∷ bits))
 
 -- ---- the bits
 

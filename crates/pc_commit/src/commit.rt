@@ -1,6 +1,6 @@
 //! The commit of a part as it stands.
 
-ghost use Rattle.std.specs.Prelude.{◌≡◌, ℕ, [], List, IfOk, IsOk, Some};
+ghost use Rattle.std.specs.Prelude.{◌≡◌, ◌<◌, ◌≤◌, ◌^◌, ℕ, [], List, length, IfOk, IsOk, Some};
 ghost use Rattle.pc_model.specs.Marks.{Mark, bits_at, commit_at, position_at};
 ghost use Rattle.pc_partition.specs.Window.{StandsFor, some_bits};
 
@@ -23,6 +23,8 @@ pub fn commit_of(
     ensures without_memory { (begin n : ℕ) (marks : List Mark)
         → StandsFor state.now.window begin n marks
         → (commit_at limit begin marks).commit.map ≡ [] → IsOk result }
+    ensures position { IfOk result (λ commit. commit.commit.position < 2 ^ 63) }
+    ensures map { IfOk result (λ commit. length commit.commit.map ≤ limit) }
 {
     let position = state.position();
     let Some(lengths) = state.lengths() else {
@@ -58,8 +60,10 @@ fn without_map(alloc: Global, position: u64, size: u32) -> SizedCommit
 
 // A commit with the best map of the bits.
 fn with_map(alloc: Global, state: &PartitionState, limit: u32) -> Result<SizedCommit, AllocError>
-    ensures { IfOk result (λ commit. (begin n : ℕ) (marks : List Mark)
+    ensures commit { IfOk result (λ commit. (begin n : ℕ) (marks : List Mark)
         → StandsFor state.now.window begin n marks → commit ≡ commit_at limit begin marks) }
+    ensures position { IfOk result (λ commit. commit.commit.position < 2 ^ 63) }
+    ensures map { IfOk result (λ commit. length commit.commit.map ≤ limit) }
 {
     let position = state.position();
     let Some(bits) = state.bits()? else {

@@ -1,27 +1,38 @@
 -- The exact effect of an engine's calls: the first refusal, or else the lawful event with its
 -- values.
-use Rattle.std.specs.Prelude.{ℕ, ◌+◌, ◌≡◌, Bool, true, false, not, ◌&&◌, nat_lt, if◌then◌else◌, bytes_eq, List, [], ◌∷◌, ◌++◌, length, Option, Some, None, Result, Ok, Err}
-use Rattle.pc_model.specs.declared.choices.BadMapRule.{BadMapRule}
-use Rattle.pc_model.specs.declared.choices.BadMapRule.TheVariants.{Redo, Refuse}
+use Rattle.std.specs.Prelude.{ℕ, ◌+◌, ◌-◌, ◌≡◌, pos, Bool, true, false, not, ◌&&◌, ◌||◌, ◌==◌, nat_lt, if◌then◌else◌, bytes_eq, List, [], ◌∷◌, ◌++◌, length, take, filter, Option, Some, None, option_map, unwrap_or, slice_get, Result, Ok, Err}
+use Rattle.std.specs.Option.{option_map_or}
 use Rattle.pc_model.specs.declared.commit.Commit.{Commit}
 use Rattle.pc_model.specs.declared.commit.SizedCommit.{SizedCommit}
 use Rattle.pc_model.specs.declared.event.Event.{Event}
-use Rattle.pc_model.specs.declared.event.Event.TheVariants.{Assign, Commit as Committed, CommitFailed}
+use Rattle.pc_model.specs.declared.event.Event.TheVariants.{Assign, Poll, Dispatch, Success, Failure, Stale as StaleResult, Commit as Committed, CommitFailed, Revoke, Lost, Crash}
+use Rattle.pc_model.specs.declared.outcome.Outcome.{Outcome}
+use Rattle.pc_model.specs.declared.outcome.Outcome.TheVariants.{Good, Bad}
+use Rattle.pc_model.specs.Record.{Record}
 use Rattle.pc_model.specs.declared.map_fault.MapFault.{MapFault}
-use Rattle.pc_model.specs.MapReading.{map_reading}
-use Rattle.pc_model.specs.Given.{Given, has_log}
-use Rattle.pc_model.specs.Jobs.{has_ended, is_draining, open_jobs}
+use Rattle.pc_model.specs.Given.{Given, has_log, record_at}
+use Rattle.pc_model.specs.Jobs.{dispatch_count, has_ended, is_draining, open_jobs}
 use Rattle.pc_model.specs.Epochs.{epoch_of, is_held}
-use Rattle.pc_model.specs.Known.{commit_of}
+use Rattle.pc_model.specs.Known.{commit_of, high_of, unpolled_records}
+use Rattle.pc_model.specs.Pressure.{is_blocked, is_upto_high}
+use Rattle.pc_model.specs.Retry.{failures_of, now_of, ready_after}
+use Rattle.pc_model.specs.Next.{next_record}
+use Rattle.pc_model.specs.History.{History}
+use Rattle.pc_task.specs.declared.job.Job.{Job}
+use Rattle.pc_task.specs.Jobs.{PlainJob, plain_job}
 use Rattle.pc_model.specs.Broker.{Broker, stored_for}
 use Rattle.pc_offset_client.specs.declared.fault.ClientFault.TheVariants.{LinkFailed}
 use Rattle.pc_offset_client.specs.Client.{CommitGives, FetchGives, GROUP}
 use Rattle.pc_world.specs.World.{HasRisen}
+use Rattle.pc_commit.specs.Resume.{map_refusal}
 use Rattle.pc_offset_client.specs.declared.fault.ClientFault.{ClientFault}
 use Rattle.pc_engine.specs.Fault.{engine_fault_of}
 use Rattle.pc_engine.specs.declared.engine.Committed.{Committed as Receipt}
 use Rattle.pc_engine.specs.declared.fault.EngineFault.{EngineFault}
-use Rattle.pc_engine.specs.declared.fault.EngineFault.TheVariants.{Closed, UnknownPart, AlreadyHeld, NotHeld, Draining, JournalFull, Client, BadMap, NoMemory}
+use Rattle.pc_engine.specs.declared.fault.EngineFault.TheVariants.{Closed, UnknownPart, AlreadyHeld, NotHeld, Draining, Pressed, JournalFull, Client, BadMap, NoMemory}
+use Rattle.pc_engine.specs.declared.settled.Settled.{Settled}
+use Rattle.pc_engine.specs.declared.settled.Settled.TheVariants.{Stale, Succeeded, Failed}
+use Rattle.pc_engine.specs.OpenJobs.{kept_job, open_job}
 
 -- what a call answers, and the events that it adds, the newest first
 pub record Step (A : Type 0) : Type 0 where
@@ -57,16 +68,6 @@ assign_refusal given h p =
     else if is_held h p then Some AlreadyHeld
     else if is_full h 1 then Some JournalFull
     else None
-
--- the fault of a map's reading
-abbrev pub reading_fault : {A : Type 0} → Result A MapFault → Option MapFault
-reading_fault (Ok map) = None
-reading_fault (Err fault) = Some fault
-
--- why a stored commit is refused: under that rule, where its map does not read
-abbrev pub map_refusal : BadMapRule → Commit → Option MapFault
-map_refusal Redo c = None
-map_refusal Refuse c = reading_fault (map_reading c.position c.map)
 
 -- an assignment with what is stored
 abbrev pub assign_with : List Event → ℕ → Commit → Option MapFault → Step (Unit {0})
@@ -115,6 +116,200 @@ commit_after given h p outcome None = commit_with p (commit_of given h p) outcom
 
 abbrev pub commit_step : Given → List Event → ℕ → Result (Unit {0}) ClientFault → Step Receipt
 commit_step given h p outcome = commit_after given h p outcome (commit_refusal given h p)
+
+-- ---- poll
+
+-- the records of the part that a poll may take: those that were not polled, under pressure only
+-- those up to its high
+unfoldable pub pollable_records : Given → List Event → ℕ → List Record
+pollable_records given h p =
+    filter (λ r. not (is_blocked given h p) || is_upto_high given h p r.offset)
+    (unpolled_records given h p)
+
+-- the next of them, at most so many
+abbrev pub next_records : Given → List Event → ℕ → ℕ → List Record
+next_records given h p max = take max (pollable_records given h p)
+
+-- the offset of the last record, and 0 where there is none
+abbrev pub last_offset : List Record → ℕ
+last_offset rs = option_map_or (λ r. r.offset) (slice_get rs (length rs - 1)) 0
+
+-- the first refusal of a poll, whatever is left of the part
+abbrev pub poll_refusal : Given → List Event → ℕ → Option EngineFault
+poll_refusal given h p =
+    if has_ended h then Some Closed
+    else if not (has_log given p) then Some UnknownPart
+    else if not (is_held h p) then Some NotHeld
+    else if is_draining h then Some Draining
+    else None
+
+-- a poll of these records
+abbrev pub polls : ℕ → List Record → Step ℕ
+polls p rs = record
+    { answer = Ok (length rs); events = Poll p (length rs) (last_offset rs) ∷ [] }
+
+-- a poll, by which records are left
+abbrev pub poll_left : Given → List Event → ℕ → ℕ → List Record → Step ℕ
+poll_left given h p max [] = record { answer = Ok 0; events = [] }
+poll_left given h p max (r ∷ rs) =
+    if is_blocked given h p && not (is_upto_high given h p r.offset)
+    then refuses (Pressed (unwrap_or (high_of given h p) 0))
+    else if is_full h 1 then refuses JournalFull
+    else polls p (next_records given h p max)
+
+abbrev pub poll_after : Given → List Event → ℕ → ℕ → Option EngineFault → Step ℕ
+poll_after given h p max (Some fault) = refuses fault
+poll_after given h p max None = poll_left given h p max (unpolled_records given h p)
+
+abbrev pub poll_step : Given → List Event → ℕ → ℕ → Step ℕ
+poll_step given h p max = poll_after given h p max (poll_refusal given h p)
+
+-- ---- take
+
+-- the first refusal of a take
+abbrev pub take_refusal : List Event → Option EngineFault
+take_refusal h =
+    if has_ended h then Some Closed else if is_full h 2 then Some JournalFull else None
+
+-- a record that no log has
+abbrev pub no_record : Record
+no_record = record { offset = 0; time = pos 0; key = None; value = None; headers = [] }
+
+-- the job of a record that is dispatched
+abbrev pub job_to_do : Given → List Event → ℕ → ℕ → ℕ → PlainJob
+job_to_do given h worker p o = record {
+  ticket = dispatch_count h + 1;
+  worker = worker;
+  part = p;
+  epoch = epoch_of h p;
+  attempt = failures_of h p o + 1;
+  entry = unwrap_or (record_at given p o) no_record;
+  rules = given.setup.rules;
+}
+
+-- the dispatch of the next record, if there is one
+abbrev pub take_next : Given → List Event → ℕ → Option (ℕ × ℕ) → Step (Option PlainJob)
+take_next given h worker None = record { answer = Ok None; events = [] }
+take_next given h worker (Some next) = record {
+  answer = Ok (Some (job_to_do given h worker next.0 next.1));
+  events = Dispatch (dispatch_count h + 1) worker next.0 next.1 (epoch_of h next.0)
+      (failures_of h next.0 next.1 + 1) ∷ [];
+}
+
+abbrev pub take_after : Given → List Event → ℕ → Option EngineFault → Step (Option PlainJob)
+take_after given h worker (Some fault) = refuses fault
+take_after given h worker None = take_next given h worker (next_record given h)
+
+abbrev pub take_step : Given → List Event → ℕ → Step (Option PlainJob)
+take_step given h worker = take_after given h worker (take_refusal h)
+
+-- ---- lose, crash, revoke
+
+-- the first refusal of a call on a held part that adds so many events
+abbrev pub held_refusal : Given → List Event → ℕ → ℕ → Option EngineFault
+held_refusal given h p more =
+    if has_ended h then Some Closed
+    else if not (has_log given p) then Some UnknownPart
+    else if not (is_held h p) then Some NotHeld
+    else if is_full h more then Some JournalFull
+    else None
+
+abbrev pub lose_refusal : Given → List Event → ℕ → Option EngineFault
+lose_refusal given h p = held_refusal given h p 1
+
+-- the loss of a part
+abbrev pub lose_after : List Event → ℕ → Option EngineFault → Step (Unit {0})
+lose_after h p (Some fault) = refuses fault
+lose_after h p None = record { answer = Ok tt; events = Lost p (epoch_of h p) ∷ [] }
+
+abbrev pub lose_step : Given → List Event → ℕ → Step (Unit {0})
+lose_step given h p = lose_after h p (lose_refusal given h p)
+
+-- the first refusal of a crash
+abbrev pub crash_refusal : List Event → Option EngineFault
+crash_refusal h =
+    if has_ended h then Some Closed else if is_full h 1 then Some JournalFull else None
+
+abbrev pub crash_after : Option EngineFault → Step (Unit {0})
+crash_after (Some fault) = refuses fault
+crash_after None = record { answer = Ok tt; events = Crash ∷ [] }
+
+abbrev pub crash_step : List Event → Step (Unit {0})
+crash_step h = crash_after (crash_refusal h)
+
+abbrev pub revoke_refusal : Given → List Event → ℕ → Option EngineFault
+revoke_refusal given h p = held_refusal given h p 2
+
+-- the fault of a commit that failed
+abbrev pub failed_of : Result (Unit {0}) ClientFault → Option ClientFault
+failed_of (Ok done) = None
+failed_of (Err failed) = Some failed
+
+-- the same of what a commit answered, where it was made
+abbrev pub failure_of : Result Receipt EngineFault → Result (Option ClientFault) EngineFault
+failure_of (Ok receipt) = Ok None
+failure_of (Err (Client failed)) = Ok (Some failed)
+failure_of (Err fault) = Err fault
+
+-- the revocation of a part, whose commit as it stands was stored or failed just before
+abbrev pub revoke_after : Given → List Event → ℕ → Result (Unit {0}) ClientFault
+    → Option EngineFault → Step (Option ClientFault)
+revoke_after given h p outcome (Some fault) = refuses fault
+revoke_after given h p outcome None = record {
+  answer = Ok (failed_of outcome);
+  events = Revoke p (epoch_of h p) ∷ (commit_with p (commit_of given h p) outcome).events;
+}
+
+abbrev pub revoke_step : Given → List Event → ℕ → Result (Unit {0}) ClientFault
+    → Step (Option ClientFault)
+revoke_step given h p outcome = revoke_after given h p outcome (revoke_refusal given h p)
+
+-- ---- settle
+
+-- The engine expects the result of this job: the job that is out under its ticket has its part,
+-- offset, epoch and attempt, the log has its record, and its rules are those of the setup.
+pub record IsExpected (given : Given) (h : List Event) (job : PlainJob) : Type 0 where
+  pub out : option_map kept_job (open_job h job.ticket) ≡ Some (record {
+    part = job.part;
+    offset = job.entry.offset;
+    epoch = job.epoch;
+    attempt = job.attempt;
+  })
+  pub entry : record_at given job.part job.entry.offset ≡ Some job.entry
+  pub rules : job.rules ≡ given.setup.rules
+
+-- what a settled result is, and the event that it adds
+pub record SettledStep : Type 0 where
+  pub answer : Settled
+  pub events : List Event
+
+-- a result of a current job, by its outcome
+abbrev pub settle_current : Given → List Event → PlainJob → Outcome → SettledStep
+settle_current given h job (Good answer) =
+    record { answer = Succeeded; events = Success job.ticket answer ∷ [] }
+settle_current given h job (Bad code) =
+    let ready = ready_after given.setup.delays job.attempt (now_of h) in
+    record { answer = Failed ready; events = Failure job.ticket code ready ∷ [] }
+
+-- a result that is expected
+abbrev pub settle_step : Given → List Event → PlainJob → Outcome → SettledStep
+settle_step given h job outcome =
+    if is_held h job.part && (job.epoch == epoch_of h job.part)
+    then settle_current given h job outcome
+    else record { answer = Stale; events = StaleResult job.ticket ∷ [] }
+
+-- a result that was settled by the step
+abbrev pub Settles : Settled → SettledStep → List Event → List Event → Type 0
+Settles result step before after = (result ≡ step.answer) × (after ≡ step.events ++ before)
+
+-- for how many events there is room beyond those kept for the jobs that are out
+abbrev pub spare : History → ℕ
+spare journal = journal.room - length (open_jobs journal.events)
+
+-- what a take answered, without where its record and its rules lie in memory
+abbrev pub taken : Result (Option Job) EngineFault → Result (Option PlainJob) EngineFault
+taken (Ok job) = Ok (option_map plain_job job)
+taken (Err fault) = Err fault
 
 -- ---- what the link's client answers
 

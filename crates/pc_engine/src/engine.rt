@@ -1,17 +1,23 @@
 //! The engine. Clauses see what it was given, its journal, and its link.
 
-ghost use Rattle.std.specs.Prelude.{◌≡◌, ◌⊎◌, IfErr, OnOk, Some, None};
-ghost use Rattle.pc_model.specs.declared.map_fault.MapFault.{MapFault};
-ghost use Rattle.pc_engine.specs.Effect.{map_refusal};
-ghost use Rattle.pc_engine.specs.declared.fault.EngineFault.TheVariants.{NoMemory, BadMap};
+ghost use Rattle.std.specs.Prelude.{◌≡◌, List, map};
+ghost use Rattle.pc_model.specs.Record.{Record};
+ghost use Rattle.pc_engine.specs.Polls.{offset_and_key, plain_next};
+ghost use Rattle.pc_engine.specs.Effect.{last_offset};
 
 use crate::fault::EngineFault;
 use crate::part::PartState;
-use pc_model::{BadMapRule, Commit as StoredCommit, Event, Journal, MapFault, MapText, Setup};
+use crate::polls::NextRecord;
+use crate::settled::Settled;
+use crate::state::State;
+use pc_broker_log::BrokerLogs;
+use pc_commit::{commit_of, resume};
+use pc_model::{Commit as StoredCommit, Event, Journal, Outcome, Setup, SizedCommit};
 use pc_offset_client::{Client, ClientFault};
-use pc_offset_map::read_map;
+use pc_partition::PartitionState;
+use pc_task::{Finished, Job};
 use pc_world::Link;
-use std::alloc::Global;
+use std::alloc::{AllocError, Global};
 use std::marker::Model;
 
 /// The most events that a journal may have, with those kept for the jobs that are out.
@@ -28,11 +34,10 @@ pub struct Committed {
 
 /// The core over one link.
 pub struct Engine<'a, L: Link> {
-    alloc: Global,
-    setup: &'a Setup,
-    parts: Vec<PartState>,
-    journal: Journal,
-    client: Client<L>,
+    pub(crate) alloc: Global,
+    pub(crate) state: State<'a>,
+    pub(crate) journal: Journal,
+    pub(crate) client: Client<L>,
 }
 
 impl<'a, L: Link> Model for Engine<'a, L> {
@@ -43,57 +48,74 @@ impl<'a, L: Link> Model for Engine<'a, L> {
     ghost Value = { EngineView L };
 
     ghost view = { λ e. record {
-      given = given_by e.setup.now (length e.parts.items) e.journal.events
+      given = given_by e.state.setup.now e.state.logs.now e.journal.events
           (L.is_told e.client.link) (kept_for (L.store e.client.link));
       journal = e.journal;
       link = e.client.link;
     } };
 
     ghost invariant = { λ e. IsEngine
-        (given_by e.setup.now (length e.parts.items) e.journal.events (L.is_told e.client.link)
+        (given_by e.state.setup.now e.state.logs.now e.journal.events (L.is_told e.client.link)
         (kept_for (L.store e.client.link)))
-        (kept_for (L.store e.client.link)) e.parts.items e.journal.events };
+        (kept_for (L.store e.client.link)) e.state e.journal.room e.journal.events };
 }
 
 impl<'a, L: Link> Engine<'a, L> {
-    ghost use Rattle.std.specs.Prelude.{◌≡◌, ◌≤◌, ℕ, true, [], IfOk, IfErr, OnOk, OnErr, Err, Ok, Some, Result, if◌then◌else◌};
+    ghost use Rattle.std.specs.Prelude.{◌≡◌, ◌≤◌, ◌<◌, ◌+◌, ◌^◌, ◌⊎◌, ◌↔◌, ◌&&◌, ◌==◌, IsTrue, ℕ, true, false, [], IfOk, IfErr, OnOk, OnErr, Err, Ok, Some, None, Result, if◌then◌else◌, length};
     ghost use Rattle.pc_model.specs.declared.commit.Commit.{Commit};
     ghost use Rattle.pc_model.specs.Known.{commit_of};
     ghost use Rattle.pc_offset_client.specs.declared.fault.ClientFault.{ClientFault};
     ghost use Rattle.pc_offset_client.specs.declared.fault.ClientFault.TheVariants.{LinkFailed};
     ghost use Rattle.pc_offset_client.specs.Client.{kept_for};
     ghost use Rattle.pc_engine.specs.declared.fault.EngineFault.{EngineFault};
-    ghost use Rattle.pc_engine.specs.declared.fault.EngineFault.TheVariants.{Client as Failed};
+    ghost use Rattle.pc_engine.specs.declared.fault.EngineFault.TheVariants.{BadMap, Client as Failed, NoMemory, UnknownPart};
+    ghost use Rattle.pc_model.specs.declared.map_fault.MapFault.{MapFault};
+    ghost use Rattle.pc_commit.specs.Resume.{map_refusal, resumed_marks};
+    ghost use Rattle.pc_partition.specs.Window.{StandsFor};
+    ghost use Rattle.pc_model.specs.Epochs.{is_held};
+    ghost use Rattle.pc_model.specs.Jobs.{has_ended, is_draining};
     ghost use Rattle.pc_world.specs.World.{HasRisen};
-    ghost use Rattle.pc_model.specs.Given.{has_log};
+    ghost use Rattle.pc_model.specs.Given.{has_log, records_of};
     ghost use Rattle.pc_model.specs.Lawful.{IsLegal};
     ghost use Rattle.pc_model.specs.Stored.{may_store};
     ghost use Rattle.pc_laws.specs.Lists.{In};
     ghost use Rattle.pc_engine.specs.Effect.{Does, IsFetched, IsStored, StoresOnly, assign_refusal, assign_step, commit_refusal, commit_step, is_full, refused_by};
     ghost use Rattle.pc_engine.specs.Engine.{given_by};
+    ghost use Rattle.pc_engine.specs.State.{PartKeeps};
+    ghost use Rattle.pc_model.specs.declared.choices.Order.TheVariants.{None as NoOrder};
+    ghost use Rattle.pc_model.specs.Jobs.{open_jobs};
+    ghost use Rattle.pc_model.specs.Epochs.{epoch_of};
+    ghost use Rattle.pc_task.specs.Jobs.{finished_job};
+    ghost use Rattle.pc_engine.specs.declared.settled.Settled.TheVariants.{Closed, Stranger};
+    ghost use Rattle.pc_engine.specs.Effect.{IsExpected, Settles, poll_refusal, poll_step, settle_step, spare, take_step, taken};
 
-    /// An engine over so many parts, each with an empty log. The error is want of memory and gives
-    /// the link back.
-    pub fn start(alloc: Global, setup: &'a Setup, parts: u32, link: L) -> Result<Engine<'a, L>, L>
-        requires { parts ≤ 1024 }
+    /// An engine over these logs, without an event. The error is want of memory and gives the link
+    /// back. So far each record has to be its own ordering key, and none may fail.
+    pub fn start(
+        alloc: Global,
+        setup: &'a Setup,
+        logs: &'a BrokerLogs<'a>,
+        link: L,
+    ) -> Result<Engine<'a, L>, L>
+        requires order { setup.now.order ≡ NoOrder }
+        requires fails { setup.now.rules.fails ≡ [] }
         ensures given { IfOk result
-            (λ e. e.given ≡ given_by setup.now parts [] (L.is_told link) (kept_for (L.store link))) }
+            (λ e. e.given ≡ given_by setup.now logs.now [] (L.is_told link)
+            (kept_for (L.store link))) }
         ensures empty { IfOk result (λ e. e.journal.events ≡ []) }
         ensures link { IfOk result (λ e. e.link ≡ link) }
         ensures back { IfErr result (λ l. l ≡ link) }
+
+        // With an engine or without one, no event is a legal history of what it is given.
+        ensures legal { IsLegal (given_by setup.now logs.now [] (L.is_told link)
+            (kept_for (L.store link))) [] }
     {
-        let unheld = PartState {
-            epoch: 0,
-            is_held: false,
-            begin: 0,
-        };
-        let Ok(parts) = vec![in alloc; unheld; parts as usize] else {
+        let Ok(state) = State::new(alloc, setup, logs) else {
             return Err(link);
         };
         Ok(Engine {
             alloc,
-            setup,
-            parts,
+            state,
             journal: Journal::new(alloc),
             client: Client::new(alloc, link),
         })
@@ -118,8 +140,7 @@ impl<'a, L: Link> Engine<'a, L> {
     {
         let Engine {
             alloc: _,
-            setup: _,
-            parts: _,
+            state: _,
             journal,
             client,
         } = self;
@@ -150,16 +171,10 @@ impl<'a, L: Link> Engine<'a, L> {
         ensures count { L.faults self.old.link ≤ L.faults self.new.link }
     {
         self.may_assign(part)?;
-        self.journal.reserve(1)?;
+        self.journal.reserve(self.state.outstanding() + 1)?;
         let stored = self.client.fetch(part)?;
-        check_map(self.alloc, self.setup.bad_map, &stored)?;
-        let at = part as usize;
-        let epoch = self.parts[at].epoch + 1;
-        self.parts[at] = PartState {
-            epoch,
-            is_held: true,
-            begin: stored.position,
-        };
+        let window = self.resumed(part, &stored)?;
+        let epoch = self.state.assign(part, stored.position, window);
         self.journal.push(Event::Assign {
             part,
             epoch,
@@ -193,32 +208,240 @@ impl<'a, L: Link> Engine<'a, L> {
         ensures count { L.faults self.old.link ≤ L.faults self.new.link }
     {
         self.may_commit(part)?;
-        self.journal.reserve(1)?;
-        let position = self.parts[part as usize].begin;
-        let commit = StoredCommit {
-            position,
-            map: MapText::empty(self.alloc),
+        self.journal.reserve(self.state.outstanding() + 1)?;
+        self.store(part)
+    }
+
+    /// Polls the next records of the part, at most `max`, and adds Poll. Answers how many; 0, without
+    /// an event, exactly where none is left.
+    ///
+    /// Refuses with `Closed`, `UnknownPart`, `NotHeld`, `Draining`; then answers 0; then refuses with
+    /// `Pressed` where the part is blocked and the next record is above its greatest complete offset,
+    /// `JournalFull` or `NoMemory`.
+    pub fn poll(&mut self, part: u32, max: u32) -> Result<u32, EngineFault>
+        requires some { 0 < max }
+        requires few { max ≤ 1_000_000 }
+        ensures effect { Does result
+            (poll_step self.old.given self.old.journal.events part max)
+            self.old.journal.events self.new.journal.events }
+        ensures given { self.new.given ≡ self.old.given }
+        ensures link { self.new.link ≡ self.old.link }
+    {
+        self.may_poll(part)?;
+        let Some(first) = self.state.first_left(part) else {
+            return Ok(0);
         };
-        match self.client.commit(part, &commit) {
+        self.state.unpressed(part, first)?;
+        self.has_room(1)?;
+        self.journal.reserve(self.state.outstanding() + 1)?;
+        let records = self.state.next_records(self.alloc, part, max)?;
+        self.state.poll(self.alloc, part, &records)?;
+        let count = records.len() as u32;
+        let last = last_of(&records);
+        self.journal.push(Event::Poll { part, count, last });
+        Ok(count)
+    }
+
+    /// Takes the next record for a worker, below 256, and adds Dispatch. None exactly where no record
+    /// may be dispatched.
+    ///
+    /// Refuses with `Closed`, `JournalFull` or `NoMemory`, the first that applies. Makes the place
+    /// that `settle` will need.
+    pub fn take(&mut self, worker: u32) -> Result<Option<Job<'a>>, EngineFault>
+        requires { worker < 256 }
+        ensures effect { Does (taken result)
+            (take_step self.old.given self.old.journal.events worker)
+            self.old.journal.events self.new.journal.events }
+        ensures given { self.new.given ≡ self.old.given }
+        ensures link { self.new.link ≡ self.old.link }
+    {
+        self.has_room(2)?;
+        let Some((part, offset)) = self.state.next() else {
+            return Ok(None);
+        };
+        self.journal.reserve(self.state.outstanding() + 2)?;
+        let job = self.state.dispatch(worker, part, offset)?;
+        self.journal.push(Event::Dispatch {
+            ticket: job.ticket,
+            worker,
+            part,
+            offset,
+            epoch: job.epoch,
+            attempt: job.attempt,
+        });
+        Ok(Some(job))
+    }
+
+    /// Settles a result: adds Success, Failure or Stale, unless the engine has ended or expects no
+    /// such result. Takes no memory.
+    pub fn settle(&mut self, done: Finished<'a>) -> Settled<'a>
+        ensures closed { has_ended self.old.journal.events ≡ true → result ≡ Closed done.entry
+            × self.new.journal.events ≡ self.old.journal.events }
+        ensures stranger { has_ended self.old.journal.events ≡ false
+            → (IsExpected self.old.given self.old.journal.events (finished_job done.entry) → ⊥)
+            → result ≡ Stranger done.entry
+            × self.new.journal.events ≡ self.old.journal.events }
+        ensures settles { has_ended self.old.journal.events ≡ false
+            → IsExpected self.old.given self.old.journal.events (finished_job done.entry)
+            → Settles result (settle_step self.old.given self.old.journal.events
+            (finished_job done.entry) done.entry.outcome)
+            self.old.journal.events self.new.journal.events }
+        ensures given { self.new.given ≡ self.old.given }
+        ensures link { self.new.link ≡ self.old.link }
+    {
+        if !self.state.expects(&done) {
+            return Settled::Stranger(done);
+        }
+        if !self.state.is_current(done.part, done.epoch) {
+            let ticket = done.ticket;
+            self.state.forget(ticket);
+            self.journal.push(Event::Stale { ticket });
+            return Settled::Stale;
+        }
+        self.succeed(done)
+    }
+
+    /// Whether `settle` would answer neither `Closed` nor `Stranger`.
+    pub fn expects(&self, done: &Finished<'a>) -> bool
+        ensures { IsTrue result ↔ ((has_ended self.now.journal.events ≡ false)
+            × IsExpected self.now.given self.now.journal.events (finished_job done.now)) }
+    {
+        self.state.expects(done)
+    }
+
+    /// Makes room for `n` events beyond those kept for the jobs that are out. The only error is want
+    /// of memory.
+    pub fn reserve(&mut self, n: u32) -> Result<(), AllocError>
+        ensures room { OnOk result (n ≤ spare self.new.journal) }
+        ensures events { self.new.journal.events ≡ self.old.journal.events }
+        ensures given { self.new.given ≡ self.old.given }
+        ensures link { self.new.link ≡ self.old.link }
+    {
+        self.journal
+            .reserve(self.state.outstanding() + u64::from(n))
+    }
+
+    // Has the commit of a held part stored: adds Commit, or CommitFailed where the client failed for
+    // another cause than memory. There has to be a place for the event.
+    pub(crate) fn store(&mut self, part: u32) -> Result<Committed, EngineFault>
+        requires may { commit_refusal self.old.given self.old.journal.events part ≡ None }
+        requires room { length (open_jobs self.old.journal.events) + 1 ≤ self.old.journal.room }
+        ensures effect { (outcome : Result (Unit {0}) ClientFault) × IsStored
+            (L.is_told self.old.link) (L.store self.old.link) (L.store self.new.link)
+            (L.faults self.old.link) (L.faults self.new.link) part
+            (commit_of self.old.given self.old.journal.events part).commit outcome × Does result
+            (commit_step self.old.given self.old.journal.events part outcome)
+            self.old.journal.events self.new.journal.events }
+        ensures cause { result ≡ Err (Failed LinkFailed) → HasRisen (L.faults self.old.link)
+            (L.faults self.new.link) }
+        ensures others { L.is_told self.old.link ≡ true → StoresOnly (has_log self.old.given)
+            (L.store self.old.link) (L.store self.new.link) }
+        ensures given { self.new.given ≡ self.old.given }
+        ensures told { L.is_told self.new.link ≡ L.is_told self.old.link }
+        ensures count { L.faults self.old.link ≤ L.faults self.new.link }
+        ensures room { (result ≡ Err NoMemory)
+            ⊎ (self.new.journal.room + 1 ≡ self.old.journal.room) }
+    {
+        let sized = self.commit_of(part)?;
+        match self.client.commit(part, &sized.commit) {
             Ok(()) => {
+                let position = sized.commit.position;
+                let size = sized.size;
+                self.state.committed(part, size);
                 self.journal.push(Event::Commit {
                     part,
                     position,
-                    map: commit.map,
-                    size: 0,
+                    map: sized.commit.map,
+                    size,
                 });
-                Ok(Committed { position, size: 0 })
+                Ok(Committed { position, size })
             }
             Err(ClientFault::NoMemory) => Err(EngineFault::NoMemory),
             Err(fault) => {
+                self.state.committed(part, sized.size);
                 self.journal.push(Event::CommitFailed {
                     part,
-                    position,
-                    map: commit.map,
-                    size: 0,
+                    position: sized.commit.position,
+                    map: sized.commit.map,
+                    size: sized.size,
                 });
                 Err(EngineFault::Client(fault))
             }
+        }
+    }
+
+    // Adds Success for the result of a current job.
+    fn succeed(&mut self, done: Finished<'a>) -> Settled<'a>
+        requires expected { IsExpected self.old.given self.old.journal.events (finished_job done) }
+        requires current { (is_held self.old.journal.events done.part
+            && (done.epoch == epoch_of self.old.journal.events done.part)) ≡ true }
+        ensures settles { Settles result (settle_step self.old.given self.old.journal.events
+            (finished_job done.entry) done.entry.outcome)
+            self.old.journal.events self.new.journal.events }
+        ensures given { self.new.given ≡ self.old.given }
+        ensures link { self.new.link ≡ self.old.link }
+    {
+        let Finished {
+            ticket,
+            worker: _,
+            part,
+            epoch: _,
+            attempt: _,
+            entry,
+            rules: _,
+            outcome,
+        } = done;
+        match outcome {
+            Outcome::Good(answer) => {
+                self.state.succeed(ticket, part, entry.offset);
+                self.journal.push(Event::Success { ticket, answer });
+                Settled::Succeeded
+            }
+            Outcome::Bad(_) => unreachable!(),
+        }
+    }
+
+    // The state of a part that is assigned with this commit.
+    fn resumed(&self, part: u32, stored: &StoredCommit) -> Result<PartitionState, EngineFault>
+        requires known { has_log self.now.given part ≡ true }
+        requires small { stored.now.position < 2 ^ 63 }
+        ensures state { IfOk result (λ state. StandsFor state.window stored.now.position 0
+            (resumed_marks stored.now (records_of self.now.given part))) }
+        ensures read { OnOk result (map_refusal self.now.given.setup.bad_map stored.now ≡ None) }
+        ensures fault { IfErr result (λ e. (e ≡ NoMemory) ⊎ ((f : MapFault) × (e ≡ BadMap f) ×
+            (map_refusal self.now.given.setup.bad_map stored.now ≡ Some f))) }
+    {
+        let Some(log) = self.state.logs.log(part) else {
+            unreachable!();
+        };
+        Ok(resume(self.alloc, log, stored, self.state.setup.bad_map)?)
+    }
+
+    // The commit of a held part as it stands.
+    fn commit_of(&self, part: u32) -> Result<SizedCommit, AllocError>
+        requires held { is_held self.now.journal.events part ≡ true }
+        requires known { has_log self.now.given part ≡ true }
+        ensures commit { IfOk result (λ c. c ≡ commit_of self.now.given self.now.journal.events part) }
+        ensures position { IfOk result (λ c. c.commit.position < 2 ^ 63) }
+        ensures map { IfOk result (λ c. length c.commit.map ≤ self.now.given.setup.map_limit) }
+    {
+        let Some(held) = self.state.held(part) else {
+            unreachable!();
+        };
+        commit_of(self.alloc, &held.window, self.state.setup.map_limit)
+    }
+
+    // What is known of a part with a log.
+    pub(crate) fn part(&self, part: u32) -> Result<&PartState, EngineFault>
+        ensures knows { IfOk result (λ state. has_log self.now.given part ≡ true
+            × PartKeeps self.now.given self.now.journal.events part state.now) }
+        ensures unknown { IfErr result (λ e. e ≡ UnknownPart × has_log self.now.given part ≡ false) }
+        ensures runs { has_ended self.now.journal.events ≡ false }
+        ensures flows { is_draining self.now.journal.events ≡ false }
+    {
+        match self.state.part(part) {
+            Some(state) => Ok(state),
+            None => Err(EngineFault::UnknownPart),
         }
     }
 
@@ -226,34 +449,39 @@ impl<'a, L: Link> Engine<'a, L> {
     fn may_assign(&self, part: u32) -> Result<(), EngineFault>
         ensures { result ≡ refused_by (assign_refusal self.now.given self.now.journal.events part) }
     {
-        let Some(state) = self.parts.as_slice().get(part as usize) else {
-            return Err(EngineFault::UnknownPart);
-        };
-        if state.is_held {
+        if self.part(part)?.held.is_some() {
             return Err(EngineFault::AlreadyHeld);
         }
-        self.has_room()
+        self.has_room(1)
     }
 
     // Why a commit of the part is refused before the link is asked.
     fn may_commit(&self, part: u32) -> Result<(), EngineFault>
         ensures { result ≡ refused_by (commit_refusal self.now.given self.now.journal.events part) }
     {
-        let Some(state) = self.parts.as_slice().get(part as usize) else {
-            return Err(EngineFault::UnknownPart);
-        };
-        if !state.is_held {
+        if self.part(part)?.held.is_none() {
             return Err(EngineFault::NotHeld);
         }
-        self.has_room()
+        self.has_room(1)
     }
 
-    // Whether one more event is within the limit.
-    fn has_room(&self) -> Result<(), EngineFault>
-        ensures { result ≡ (if is_full self.now.journal.events 1 then Err EngineFault.JournalFull
-            else Ok tt) }
+    // Why a poll of the part is refused, whatever is left of it.
+    fn may_poll(&self, part: u32) -> Result<(), EngineFault>
+        ensures { result ≡ refused_by (poll_refusal self.now.given self.now.journal.events part) }
     {
-        if self.journal.len() < EVENTS_MAX {
+        if self.part(part)?.held.is_none() {
+            return Err(EngineFault::NotHeld);
+        }
+        Ok(())
+    }
+
+    // Whether so many more events are within the limit, at most 2.
+    pub(crate) fn has_room(&self, more: u64) -> Result<(), EngineFault>
+        requires { more ≤ 2 }
+        ensures { result ≡ (if is_full self.now.journal.events more
+            then Err EngineFault.JournalFull else Ok tt) }
+    {
+        if self.journal.len() + self.state.outstanding() + more <= EVENTS_MAX {
             Ok(())
         } else {
             Err(EngineFault::JournalFull)
@@ -261,21 +489,13 @@ impl<'a, L: Link> Engine<'a, L> {
     }
 }
 
-/// Refuses a commit whose map does not read, where the rule says so.
-fn check_map(alloc: Global, rule: BadMapRule, commit: &StoredCommit) -> Result<(), EngineFault>
-    ensures ok { OnOk result (map_refusal rule commit.now ≡ None) }
-    ensures fault { IfErr result
-        (λ e. (e ≡ NoMemory) ⊎ ((f : MapFault) × (e ≡ BadMap f) ×
-        (map_refusal rule commit.now ≡ Some f))) }
+/// The offset of the last record, and 0 where there is none.
+fn last_of(records: &[NextRecord<'_>]) -> u64
+    ensures { (rs : List Record) → plain_next records.now ≡ map offset_and_key rs
+        → result ≡ last_offset rs }
 {
-    match rule {
-        BadMapRule::Redo => Ok(()),
-        BadMapRule::Refuse => {
-            match read_map(alloc, commit.position, commit.map.as_str().as_bytes()) {
-                Ok(_) => Ok(()),
-                Err(MapFault::NoMemory) => Err(EngineFault::NoMemory),
-                Err(fault) => Err(EngineFault::BadMap(fault)),
-            }
-        }
+    match records.last() {
+        Some(record) => record.0,
+        None => 0,
     }
 }

@@ -3,6 +3,7 @@
 ghost use Rattle.std.specs.Prelude.{◌≡◌};
 ghost use Rattle.pc_engine.specs.declared.fault.EngineFault.TheVariants.{NoMemory};
 
+use pc_commit::ResumeFault;
 use pc_model::MapFault;
 use pc_offset_client::ClientFault;
 use std::alloc::{AllocError, AllocFailed};
@@ -72,6 +73,19 @@ impl From<ClientFault> for EngineFault {
         match fault {
             ClientFault::NoMemory => EngineFault::NoMemory,
             fault => EngineFault::Client(fault),
+        }
+    }
+}
+
+impl From<ResumeFault> for EngineFault {
+    ghost use Rattle.pc_engine.specs.Fault.{resume_fault_of};
+
+    ghost from_gives = { λ fault e. e ≡ resume_fault_of fault };
+
+    fn from(fault: ResumeFault) -> EngineFault {
+        match fault {
+            ResumeFault::BadMap(fault) => EngineFault::BadMap(fault),
+            ResumeFault::NoMemory => EngineFault::NoMemory,
         }
     }
 }

@@ -1,9 +1,40 @@
-//! What the engine knows of a part.
+//! What is kept of a part.
 
-/// A part's epoch, and where it reads from while it is held.
-#[derive(Clone, Copy, Debug)]
+ghost use Rattle.std.specs.Prelude.{◌≡◌, ℕ, None, IfOk, length, replicate};
+
+use pc_partition::PartitionState;
+use std::alloc::{AllocError, Global};
+
+/// A part's epoch, and what is known of it while it is held.
+#[derive(Debug, Drop)]
 pub struct PartState {
     pub epoch: u64,
-    pub is_held: bool,
-    pub begin: u64,
+    pub held: Option<HeldPart>,
+}
+
+/// What is known of a part that is held.
+#[derive(Debug, Drop)]
+pub struct HeldPart {
+    /// Which known offsets are complete.
+    pub window: PartitionState,
+    /// The offset from which on the records were not polled.
+    pub next: u64,
+    /// The size of the last commit since the assignment.
+    pub size: Option<u32>,
+}
+
+/// So many parts of which none was held.
+pub fn unheld(alloc: Global, count: u32) -> Result<Vec<PartState>, AllocError>
+    ensures count { IfOk result (λ parts. length parts.items ≡ count) }
+    ensures each { IfOk result (λ parts. parts.items
+        ≡ replicate count (record { epoch = 0; held = None })) }
+{
+    let mut parts = Vec::with_capacity(alloc, count as usize)?;
+    for _ in 0..count {
+        parts.push(PartState {
+            epoch: 0,
+            held: None,
+        })?;
+    }
+    Ok(parts)
 }

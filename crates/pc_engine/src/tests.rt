@@ -1,7 +1,9 @@
 //! That memory is found, and which of the faults a call answers.
 
 use crate::{Committed, Engine, EngineFault};
-use pc_model::{Event, Setup};
+use pc_broker_log::BrokerLogs;
+use pc_cursor::Log;
+use pc_model::{Event, Journal, Setup};
 use pc_offset_client::ClientFault;
 use pc_world::{Link, LinkFault};
 use std::alloc::{AllocError, Global};
@@ -10,10 +12,10 @@ use std::test::Fail;
 /// A link that tells nothing. Each of its calls is answered by the next of some replies, and fails
 /// where that is empty.
 #[derive(Debug, Drop)]
-struct Scripted {
-    alloc: Global,
-    replies: &'static [&'static [u8]],
-    faults: u64,
+pub(crate) struct Scripted {
+    pub(crate) alloc: Global,
+    pub(crate) replies: &'static [&'static [u8]],
+    pub(crate) faults: u64,
 }
 
 impl Link for Scripted {
@@ -43,21 +45,31 @@ impl Link for Scripted {
 enum Call {
     Assign(u32),
     Commit(u32),
+    Revoke(u32),
+    Lose(u32),
+    Crash,
 }
 
 /// Replies by their correlation ids: nothing is stored for part 0; its commit is stored; two calls
-/// fail; its commit is refused with code 3.
-const REPLIES: [&[u8]; 5] = [
+/// fail; its commit is refused with code 3; then, for its revocation, its commit is stored; nothing
+/// is stored for it, and it is lost; nothing is stored for it, and its revocation fails.
+const REPLIES: [&[u8]; 9] = [
     b"\0\0\0\x21\0\0\0\x01\0\0\0\x01\0\x03log\0\0\0\x01\0\0\0\0\xff\xff\xff\xff\xff\xff\xff\xff\0\0\0\0",
     b"\0\0\0\x17\0\0\0\x02\0\0\0\x01\0\x03log\0\0\0\x01\0\0\0\0\0\0",
     b"",
     b"",
     b"\0\0\0\x17\0\0\0\x05\0\0\0\x01\0\x03log\0\0\0\x01\0\0\0\0\0\x03",
+    b"\0\0\0\x17\0\0\0\x06\0\0\0\x01\0\x03log\0\0\0\x01\0\0\0\0\0\0",
+    b"\0\0\0\x21\0\0\0\x07\0\0\0\x01\0\x03log\0\0\0\x01\0\0\0\0\xff\xff\xff\xff\xff\xff\xff\xff\0\0\0\0",
+    b"\0\0\0\x21\0\0\0\x08\0\0\0\x01\0\x03log\0\0\0\x01\0\0\0\0\xff\xff\xff\xff\xff\xff\xff\xff\0\0\0\0",
+    b"",
 ];
 
 /// The calls over two parts, and what each answers.
-const CALLS: [(Call, Result<(), EngineFault>); 10] = [
+const CALLS: [(Call, Result<(), EngineFault>); 19] = [
     (Call::Assign(2), Err(EngineFault::UnknownPart)),
+    (Call::Lose(2), Err(EngineFault::UnknownPart)),
+    (Call::Revoke(0), Err(EngineFault::NotHeld)),
     (Call::Commit(2), Err(EngineFault::UnknownPart)),
     (Call::Commit(0), Err(EngineFault::NotHeld)),
     (Call::Assign(0), Ok(())),
@@ -75,16 +87,32 @@ const CALLS: [(Call, Result<(), EngineFault>); 10] = [
         Call::Commit(0),
         Err(EngineFault::Client(ClientFault::Refused(3))),
     ),
-    (Call::Commit(0), Err(EngineFault::NoMemory)),
+    (Call::Revoke(0), Ok(())),
+    (Call::Lose(0), Err(EngineFault::NotHeld)),
+    (Call::Assign(0), Ok(())),
+    (Call::Lose(0), Ok(())),
+    (Call::Assign(0), Ok(())),
+    (
+        Call::Revoke(0),
+        Err(EngineFault::Client(ClientFault::LinkFailed)),
+    ),
+    (Call::Crash, Ok(())),
+    (Call::Assign(0), Err(EngineFault::NoMemory)),
 ];
 
-fn answer(engine: &mut Engine<Scripted>, call: Call) -> Result<(), EngineFault> {
+fn answer(engine: &mut Engine<'_, Scripted>, call: Call) -> Result<(), EngineFault> {
     match call {
         Call::Assign(part) => engine.assign(part),
         Call::Commit(part) => {
             let _: Committed = engine.commit(part)?;
             Ok(())
         }
+        Call::Revoke(part) => match engine.revoke(part)? {
+            Some(fault) => Err(EngineFault::Client(fault)),
+            None => Ok(()),
+        },
+        Call::Lose(part) => engine.lose(part),
+        Call::Crash => engine.crash(),
     }
 }
 
@@ -94,26 +122,72 @@ fn name(event: &Event) -> &'static str {
         Event::Assign { .. } => "assign",
         Event::Commit { .. } => "commit",
         Event::CommitFailed { .. } => "commit-failed",
+        Event::Revoke { .. } => "revoke",
+        Event::Lost { .. } => "lost",
+        Event::Crash => "crash",
         _ => "another",
     }
 }
 
-#[test]
-fn refusals_add_nothing(rt: HostRuntime) -> Result<(), Fail> {
-    let setup = Setup::with_defaults(rt.alloc())?;
+/// The empty logs of parts 0 and 1.
+fn empty_logs<'a>(alloc: Global) -> Result<BrokerLogs<'a>, AllocError> {
+    let mut logs = BrokerLogs::new(alloc);
+    for part in [0, 1] {
+        let Ok(log) = Log::check(alloc, b"") else {
+            return Err(AllocError);
+        };
+        if logs.add(part, log).is_err() {
+            return Err(AllocError);
+        }
+    }
+    Ok(logs)
+}
+
+/// What the calls answer over these logs, and the journal that they leave.
+fn answers(
+    alloc: Global,
+    logs: &BrokerLogs<'_>,
+) -> Result<([Result<(), EngineFault>; 19], Journal), AllocError> {
+    let setup = Setup::with_defaults(alloc)?;
     let link = Scripted {
-        alloc: rt.alloc(),
+        alloc,
         replies: &REPLIES,
         faults: 0,
     };
-    let mut engine = Engine::start(rt.alloc(), &setup, 2, link).map_err(|_| AllocError)?;
-    for (call, wanted) in CALLS {
-        assert_eq!(rt; answer(&mut engine, call), wanted, "at {call:?}");
+    let Ok(mut engine) = Engine::start(alloc, &setup, logs, link) else {
+        return Err(AllocError);
+    };
+    let mut answers = [Ok(()); 19];
+    for i in 0..19 {
+        answers[i] = answer(&mut engine, CALLS[i].0);
     }
-    let (journal, _) = engine.into_parts();
-    let events = ["assign", "commit", "commit-failed", "commit-failed"];
-    assert_eq!(rt; journal.len(), 4);
-    for i in 0..4 {
+    Ok((answers, engine.into_parts().0))
+}
+
+#[test]
+fn refusals_add_nothing(rt: HostRuntime) -> Result<(), Fail> {
+    let logs = empty_logs(rt.alloc())?;
+    let (answers, journal) = answers(rt.alloc(), &logs)?;
+    for i in 0..19 {
+        let (call, wanted) = CALLS[i];
+        assert_eq!(rt; answers[i], wanted, "at {call:?}");
+    }
+    let events = [
+        "assign",
+        "commit",
+        "commit-failed",
+        "commit-failed",
+        "commit",
+        "revoke",
+        "assign",
+        "lost",
+        "assign",
+        "commit-failed",
+        "revoke",
+        "crash",
+    ];
+    assert_eq!(rt; journal.len(), 12);
+    for i in 0..12 {
         assert_eq!(rt; journal.get(i as u64).map(name), Some(events[i]));
     }
     Ok(())

@@ -151,13 +151,13 @@ take-up (suc k) (suc m) x (y ∷ ys) le (inr i) = inr (take-up k m x ys (omega a
 
 -- ---- the job of a ticket
 
-job-of : (h : List Event) (t : ℕ) (j : Job) → job_of h t ≡ Some j → In j (jobs_of h) ×
+pub job-of : (h : List Event) (t : ℕ) (j : Job) → job_of h t ≡ Some j → In j (jobs_of h) ×
     (j.ticket ≡ t)
 job-of h t j found = let at = In-find (λ (x : Job). x.ticket == t) j (jobs_of h) found in
     (at.0, eqb-true j.ticket t at.1)
 
 -- a ticket that is out and current has a job that is so
-out-job : (h : List Event) (t : ℕ) → is_outstanding h t ≡ true → is_current_ticket h t ≡ true
+pub out-job : (h : List Event) (t : ℕ) → is_outstanding h t ≡ true → is_current_ticket h t ≡ true
     → (j : Job) × (job_of h t ≡ Some j) × In j (open_jobs h) × (is_current h j ≡ true) ×
     (j.ticket ≡ t)
 out-job h t out current = elim (option_cases (job_of h t)) [

@@ -20,7 +20,7 @@ use Rattle.pc_laws.proofs.JobsLaw.{keeps_jobs}
 use Rattle.pc_laws.proofs.HighLaw.{blocked_has_high}
 
 -- no offset from the end on lies below it
-none-below : (end n : ℕ) (rs : List Record) → end ≤ n → Rises n rs → filter
+pub none-below : (end n : ℕ) (rs : List Record) → end ≤ n → Rises n rs → filter
     (λ r. nat_lt r.offset end) rs ≡ []
 none-below end n [] le rises = refl
 none-below end n (r ∷ rs) le rises = elim (cases_Bool (nat_lt r.offset end)) [
@@ -30,7 +30,7 @@ none-below end n (r ∷ rs) le rises = elim (cases_Bool (nat_lt r.offset end)) [
       (let above : n ≤ r.offset = rises.0 in omega arith) rises.2)
 ]
 
-end-le : (end o : ℕ) → nat_lt o end ≡ false → end ≤ suc o
+pub end-le : (end o : ℕ) → nat_lt o end ≡ false → end ≤ suc o
 end-le end o out = elim (cases_lt o end)
     [ inl lt ↦ true-not-false (nat_lt o end) (lt-ltb o end lt) out | inr le ↦ omega arith ]
 

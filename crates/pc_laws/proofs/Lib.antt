@@ -12,4 +12,5 @@ pub mod StallLaw
 pub mod HighLaw
 pub mod HeldLaw
 pub mod JobsLaw
+pub mod SucceededLaw
 pub mod KeptLaw

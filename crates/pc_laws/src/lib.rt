@@ -4,16 +4,16 @@
 //! Each function does nothing; its clause is the law, for every setup, log, start and history.
 #![tactic(auto)]
 
-ghost use Rattle.std.specs.Prelude.{ℕ, List, [], ◌∷◌, ◌++◌, ◌≡◌, ◌≤◌, ◌⊎◌, true, false};
+ghost use Rattle.std.specs.Prelude.{ℕ, List, [], ◌∷◌, ◌++◌, ◌≡◌, ◌≤◌, ◌<◌, ◌⊎◌, true, false};
 ghost use Rattle.pc_model.specs.declared.event.Event.{Event};
 ghost use Rattle.pc_model.specs.declared.event.Event.TheVariants.{Stale, Done};
 ghost use Rattle.pc_model.specs.declared.commit.Commit.{Commit};
 ghost use Rattle.pc_model.specs.Record.{Record};
 ghost use Rattle.pc_model.specs.Given.{Given, records_of};
 ghost use Rattle.pc_model.specs.Jobs.{is_draining};
-ghost use Rattle.pc_model.specs.Epochs.{is_held, moves};
+ghost use Rattle.pc_model.specs.Epochs.{epoch_of, is_held, moves};
 ghost use Rattle.pc_model.specs.Stored.{may_store, passes};
-ghost use Rattle.pc_model.specs.Known.{unpolled_records, is_complete, position_of};
+ghost use Rattle.pc_model.specs.Known.{polled_records, unpolled_records, has_succeeded, is_complete, position_of};
 ghost use Rattle.pc_model.specs.Next.{eligible_offsets, next_record};
 ghost use Rattle.pc_model.specs.Lawful.{IsLegal};
 ghost use Rattle.pc_model.specs.Sound.{IsSound, IsOrderly};
@@ -90,4 +90,17 @@ pub fn never_stalls()
     ensures { (given : Given) (h : List Event) (p : ℕ) → IsLegal given h → is_held h p ≡ true
         → (is_draining h ≡ false) ⊎ (unpolled_records given h p ≡ [])
         → HasWork given h p → GoesOn given h p }
+{}
+
+/// No success is of an epoch that its part has not reached.
+pub fn no_epoch_succeeds_early()
+    ensures { (given : Given) (h : List Event) → IsLegal given h → (p e o : ℕ) → epoch_of h p < e →
+        has_succeeded h p e o ≡ false }
+{}
+
+/// What succeeded in the present epoch of a held part is a record of it that was polled.
+pub fn successes_were_polled()
+    ensures { (given : Given) (h : List Event) → IsLegal given h → (p o : ℕ) → is_held h p ≡ true
+        → has_succeeded h p (epoch_of h p) o ≡ true
+        → (r : Record) × In r (polled_records given h p) × (r.offset ≡ o) }
 {}

@@ -2,11 +2,11 @@
 //! one, and where the known and the polled ones end; `StandsFor` says of which begin and marks, of
 //! which the first n were polled, that is the state.
 
-ghost use Rattle.std.specs.Prelude.{◌≡◌, ℕ, ◌+◌, ◌-◌, ◌^◌, ◌<◌, ◌≤◌, ◌==◌, [], ◌∷◌, not, true, List, map, take, length, IfOk, OnErr, OnOk};
+ghost use Rattle.std.specs.Prelude.{◌≡◌, ℕ, ◌+◌, ◌-◌, ◌^◌, ◌<◌, ◌≤◌, ◌==◌, [], ◌∷◌, not, true, List, map, take, length, IfOk, IsOk, OnErr, OnOk, nat_le, ◌||◌};
 ghost use Rattle.std.specs.List.{list_any};
 ghost use Rattle.std.specs.Option.{option_map, unwrap_or};
 ghost use Rattle.pc_model.specs.Numbers.{least_of};
-ghost use Rattle.pc_model.specs.Marks.{Mark, bits_at, high_at, incomplete_offsets, position_at};
+ghost use Rattle.pc_model.specs.Marks.{Mark, bits_at, end_at, high_at, incomplete_offsets, position_at};
 ghost use Rattle.pc_model.specs.OneMore.{with_complete};
 ghost use Rattle.pc_partition.specs.Lengths.{lengths_of};
 ghost use Rattle.pc_partition.specs.Window.{AreNext, RisesFrom, StandsFor, inherit_window, marks_of_pairs, open_polled, poll_window, some_bits, succeed_window, with_polled};
@@ -80,8 +80,18 @@ impl PartitionState {
         Ok(state)
     }
 
+    /// Makes room for polling `n` more offsets. Where memory runs out, all is as before.
+    pub fn reserve(&mut self, n: u32) -> Result<(), AllocError>
+        ensures window { self.new.window ≡ self.old.window }
+        ensures room { OnOk result (n ≤ self.new.room) }
+        ensures reserved { n ≤ self.old.room → IsOk result }
+    {
+        let room = n as usize + (self.left - self.runs.list.as_slice().len());
+        self.runs.list.reserve(room)
+    }
+
     /// Polls the offsets, which are new where they are not known. Where memory runs out, the same
-    /// is known and polled as before.
+    /// is known and polled as before; where room was reserved for them, it does not.
     pub fn polled(&mut self, offsets: &[u64]) -> Result<(), AllocError>
         requires rises { RisesFrom self.old.window.polled_to offsets.now }
         requires next { (begin n : ℕ) × (marks : List Mark)
@@ -92,9 +102,9 @@ impl PartitionState {
             → StandsFor self.new.window begin (n + length offsets.now)
             (with_polled n marks offsets.now)) }
         ensures stays { OnErr result (self.new.window ≡ self.old.window) }
+        ensures reserved { length offsets.now ≤ self.old.room → IsOk result }
     {
-        let room = offsets.len() + (self.left - self.runs.list.as_slice().len());
-        self.runs.list.reserve(room)?;
+        self.reserve(offsets.len() as u32)?;
         for offset in offsets {
             self.poll(*offset);
         }
@@ -116,6 +126,7 @@ impl PartitionState {
             → StandsFor self.now.window begin n marks → result ≡ position_at begin marks }
         ensures least { result
             ≡ unwrap_or (least_of self.now.window.incomplete) self.now.window.after }
+        ensures small { result < 2 ^ 63 }
     {
         match self.runs.list.as_slice().first() {
             Some(run) => run.0,
@@ -139,6 +150,19 @@ impl PartitionState {
         ensures value { result ≡ not (list_any (λ o. o == offset) self.now.window.incomplete) }
     {
         !runs::contains(self.runs.list.as_slice(), offset)
+    }
+
+    /// Whether an offset is incomplete, or new, which it is behind the known ones. By a binary
+    /// search.
+    pub fn is_open(&self, offset: u64) -> bool
+        ensures open { (begin n : ℕ) (marks : List Mark)
+            → StandsFor self.now.window begin n marks
+            → result ≡ (nat_le (end_at begin marks) offset
+            || list_any (λ o. o == offset) (incomplete_offsets marks)) }
+        ensures value { result ≡ (nat_le self.now.window.after offset
+            || list_any (λ o. o == offset) self.now.window.incomplete) }
+    {
+        self.after <= offset || runs::contains(self.runs.list.as_slice(), offset)
     }
 
     /// How many polled offsets are incomplete.

@@ -32,6 +32,9 @@ fn a_map_is_inherited(rt: HostRuntime) -> Result<(), Fail> {
     assert_eq!(rt; state.open_polled(), 0);
     assert!(rt; state.is_complete(2));
     assert!(rt; !state.is_complete(6));
+    for (offset, is_open) in [(1, true), (2, false), (6, true), (7, true)] {
+        assert_eq!(rt; state.is_open(offset), is_open, "{offset}");
+    }
     let bits = state.bits()?.expect(&rt, "bits");
     assert_eq!(rt; bits.count(), 2);
     assert_eq!(rt; bits.run(0), Some((0, 1)));

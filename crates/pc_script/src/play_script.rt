@@ -32,7 +32,7 @@ impl Model for PlayScript {
 }
 
 impl PlayScript {
-    ghost use Rattle.pc_script.specs.PlayScript.{IsPlayable};
+    ghost use Rattle.pc_script.specs.PlayScript.{ArePlayable, IsPlayable};
 
     /// How many lines ask for something. Takes no memory.
     pub fn len(&self) -> u64
@@ -51,7 +51,8 @@ impl PlayScript {
 
     /// All lines that ask for something, in order.
     pub fn as_slice(&self) -> &[PlayLine]
-        ensures { result.now ≡ self.now }
+        ensures lines { result.now ≡ self.now }
+        ensures playable { ArePlayable result.now }
     {
         self.lines.as_slice()
     }

@@ -13,7 +13,7 @@ use Rattle.pc_shards.proofs.EntriesLemmas.{In-queue, first-low, first-some, leng
 
 module _ (order : Order) (p : ℕ) (es : List Entry) (e : Entry)
     (above : (q : Entry) → In q es → q.offset < e.offset) where
-  first-push : (x : Entry) → In x es → is_first order p es x ≡ true
+  pub first-push : (x : Entry) → In x es → is_first order p es x ≡ true
       → is_first order p (es ++ e ∷ []) x ≡ true
   first-push x i first = low-first order p (es ++ e ∷ []) x (λ q j same. elim (In-append q es
       (e ∷ []) j) [
@@ -26,7 +26,7 @@ module _ (order : Order) (p : ℕ) (es : List Entry) (e : Entry)
         ]
       ])
 
-  first-pushed : (x : Entry) → is_first order p (es ++ e ∷ []) x ≡ true
+  pub first-pushed : (x : Entry) → is_first order p (es ++ e ∷ []) x ≡ true
       → is_first order p es x ≡ true
   first-pushed x first = first-some order p (es ++ e ∷ []) es x (λ q i. In-append_left q es
       (e ∷ []) i) first

@@ -11,4 +11,7 @@ pub mod EntriesLaws
 pub mod ShardsLemmas
 pub mod ShardsDone
 pub mod ShardsAdded
+pub mod CutEntries
+pub mod ShardsCut
+pub mod AddedAll
 pub mod OpenEntriesLaws

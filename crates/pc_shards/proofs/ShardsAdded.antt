@@ -23,12 +23,12 @@ use Rattle.pc_shards.proofs.AddedEntries.{added-behind, added-first, queue-push}
 use Rattle.pc_shards.proofs.EntriesLemmas.{ready-few}
 use Rattle.pc_shards.proofs.ShardsLemmas.{IsPartAt, changes-set, entries_in, of-all, queue_of-same, shards-kept, shards-set, view, view-set}
 
-All-In : {X : Type 0} (P : X → Type 0) (x : X) (xs : List X) → All P xs → In x xs → P x
+pub All-In : {X : Type 0} (P : X → Type 0) (x : X) (xs : List X) → All P xs → In x xs → P x
 All-In P x [] all i = elim i [ ]
 All-In P x (y ∷ ys) all (inl e) = subst P (sym e) (all zero y (omega arith))
 All-In P x (y ∷ ys) all (inr i) = All-In P x ys (λ k d h. all (suc k) d (omega arith)) i
 
-append-nil : {X : Type 0} (xs : List X) → xs ++ [] ≡ xs
+pub append-nil : {X : Type 0} (xs : List X) → xs ++ [] ≡ xs
 append-nil [] = refl
 append-nil (x ∷ xs) = ap (λ ys. x ∷ ys) (append-nil xs)
 
@@ -38,8 +38,8 @@ some-number n e = elim (cases_lt 0 n) [
   | inr le ↦ number-is_not n 0 e (omega arith)
 ]
 
-plain-push : (es : List EntryRef) (e : EntryRef) → plain_entries (es ++ e ∷ []) ≡ plain_entries es
-    ++ plain e ∷ []
+pub plain-push : (es : List EntryRef) (e : EntryRef)
+    → plain_entries (es ++ e ∷ []) ≡ plain_entries es ++ plain e ∷ []
 plain-push [] e = refl
 plain-push (x ∷ es) e = ap (λ xs. plain x ∷ xs) (plain-push es e)
 

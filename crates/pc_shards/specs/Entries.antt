@@ -1,6 +1,8 @@
 -- The polled, incomplete records of the parts, and which of them may be dispatched by the ordering
 -- keys.
 use Rattle.std.specs.Prelude.{ℕ, pos, ◌≡◌, Bool, true, false, not, ◌&&◌, ◌==◌, nat_lt, if◌then◌else◌, List, map, filter, [], slice_index_or, Option, None}
+use Rattle.std.specs.Borrow.{Bor}
+use Rattle.std.specs.Option.{option_copied}
 use Rattle.std.specs.List.{list_any, list_all}
 use Rattle.pc_model.specs.declared.choices.Order.{Order}
 use Rattle.pc_model.specs.Record.{Record}
@@ -22,6 +24,14 @@ pub record Entries : Type 0 where
 -- the entries of a part, in the order in which they were added
 abbrev pub of_part : Entries → ℕ → List Entry
 of_part s p = slice_index_or s.parts p []
+
+-- the entry of a record's offset and lent key, which is not busy
+abbrev pub new_entry : ℕ × Option (Bor (List ℕ)) → Entry
+new_entry r = record { offset = r.0; key = option_copied r.1; is_busy = false }
+
+-- the entries of records, in their order
+abbrev pub new_entries : List (ℕ × Option (Bor (List ℕ))) → List Entry
+new_entries rs = map new_entry rs
 
 -- the record of an entry, as far as ordering keys see it
 abbrev pub record_of : Entry → Record

@@ -121,6 +121,21 @@ impl<'a> Part<'a> {
         entry.key
     }
 
+    /// Takes out the last entry, which is not ready then.
+    pub fn pop(&mut self) -> EntryRef<'a>
+        requires some { 0 < vec_len self.old.entries }
+        requires rises { Rises self.old.ready.items }
+        ensures entries { self.old.entries.items ≡ self.new.entries.items ++ result ∷ [] }
+        ensures ready { self.new.ready.items ≡ but result.offset self.old.ready.items }
+        ensures capacity { vec_capacity self.new.ready ≡ vec_capacity self.old.ready }
+    {
+        let Some(entry) = self.entries.pop() else {
+            unreachable!();
+        };
+        rising::remove(&mut self.ready, entry.offset);
+        entry
+    }
+
     /// Makes an offset ready, for which there is a place.
     pub fn make_ready(&mut self, offset: u64)
         requires rises { Rises self.old.ready.items }

@@ -1,6 +1,6 @@
 //! The queue of offsets of each ordering key. Clauses see a queue by `queue_of`.
 
-ghost use Rattle.std.specs.Prelude.{not, ◌≡◌, ◌==◌, length, ◌++◌, [], ◌∷◌, IfOk, OnErr, OnOk, true, false, drop, slice_get};
+ghost use Rattle.std.specs.Prelude.{not, ◌≡◌, ◌==◌, length, ◌++◌, [], ◌∷◌, IfOk, OnErr, OnOk, true, false, drop, slice_get, ◌-◌, take};
 ghost use Rattle.pc_shards.specs.declared.shard_key.ShardKey.{ShardKey};
 ghost use Rattle.pc_shards.specs.Queues.{queue_of};
 ghost use Rattle.pc_shards.specs.ShardKey.{is_same, part_of};
@@ -63,6 +63,22 @@ impl<'a> Queues<'a> {
             self.map.swap_remove(&key);
         }
         next
+    }
+
+    /// Takes the last offset out of the key's queue.
+    pub fn pop_back(&mut self, key: ShardKey<'a>)
+        ensures queue { queue_of self.new key.entry
+            ≡ take (length (queue_of self.old key.entry) - 1) (queue_of self.old key.entry) }
+        ensures others { (k : ShardKey) → is_same key.entry k ≡ false
+            → queue_of self.new k ≡ queue_of self.old k }
+    {
+        let Some(queue) = self.map.get_mut(&key) else {
+            return;
+        };
+        queue.pop_back();
+        if queue.is_empty() {
+            self.map.swap_remove(&key);
+        }
     }
 
     /// Empties the queues of the part's keys.

@@ -1,11 +1,12 @@
 //! The shards. Clauses see the order, and the entries of each part in the order in which they were
 //! added.
 
-ghost use Rattle.std.specs.Prelude.{◌≡◌, ℕ, ◌<◌, ◌++◌, ◌∷◌, [], false, true, OnErr, OnOk};
+ghost use Rattle.std.specs.Prelude.{◌≡◌, ℕ, ◌<◌, ◌++◌, ◌∷◌, [], false, true, OnErr, OnOk, ◌-◌, length, map, take};
 ghost use Rattle.std.specs.List.{All};
 ghost use Rattle.std.specs.Option.{option_copied};
+ghost use Rattle.pc_shards.specs.Rising.{Rises};
 ghost use Rattle.pc_shards.specs.Shards.{HasRoomAt, KeepsParts};
-ghost use Rattle.pc_shards.specs.Entries.{BusyAreFirst, ChangesNothing, ChangesOnly, is_first_offset, least_ready_of, of_part, with_busy, without};
+ghost use Rattle.pc_shards.specs.Entries.{BusyAreFirst, ChangesNothing, ChangesOnly, is_first_offset, least_ready_of, new_entries, of_part, with_busy, without};
 
 use crate::part::Part;
 use crate::queues::Queues;
@@ -68,6 +69,42 @@ impl<'a> Shards<'a> {
         Ok(())
     }
 
+    /// Adds records that were polled and are incomplete, an offset and a key each, in this order
+    /// and above all of their part that are there: all of them, or none where memory runs out. None
+    /// is busy.
+    pub fn add_all(
+        &mut self,
+        part: u32,
+        records: &[(u64, Option<&'a [u8]>)],
+    ) -> Result<(), AllocError>
+        requires rises { Rises (map (λ r. r.0) records.now) }
+        requires above { All (λ r. All (λ e. e.offset < r.0) (of_part self.old part)) records.now }
+        ensures added { OnOk result
+            (of_part self.new part ≡ of_part self.old part ++ new_entries records.now) }
+        ensures others { OnOk result (ChangesOnly part self.old self.new) }
+        ensures stays { OnErr result (ChangesNothing self.old self.new) }
+    {
+        let len = self.count(part);
+        for (offset, key) in records {
+            if let Err(error) = self.add(part, *offset, *key) {
+                self.cut(part, len);
+                return Err(error);
+            }
+        }
+        Ok(())
+    }
+
+    /// Takes out all entries of the part but the first of this number, busy or not. Takes no
+    /// memory.
+    pub fn cut(&mut self, part: u32, len: usize)
+        ensures cut { of_part self.new part ≡ take len (of_part self.old part) }
+        ensures others { ChangesOnly part self.old self.new }
+    {
+        'cut: while len < self.count(part) {
+            self.pop(part);
+        }
+    }
+
     /// The least offset of the part that is the first of its ordering key and not busy. Of an
     /// ordering key no other than the first is busy.
     pub fn least_ready(&self, part: u32) -> Option<u64>
@@ -123,6 +160,36 @@ impl<'a> Shards<'a> {
         state.entries.clear();
         state.ready.clear();
         self.queues.drop_part(part);
+    }
+
+    /// Takes out all of every part. Takes no memory.
+    pub fn clear(&mut self)
+        ensures order { self.new.order ≡ self.old.order }
+        ensures empty { (p : ℕ) → of_part self.new p ≡ [] }
+    {
+        *self = Shards::new(self.alloc, self.order);
+    }
+
+    /// How many entries the part has.
+    fn count(&self, part: u32) -> usize
+        ensures { result ≡ length (of_part self.now part) }
+    {
+        let Some(state) = self.parts.as_slice().get(part as usize) else {
+            return 0;
+        };
+        state.entries.as_slice().len()
+    }
+
+    /// Takes out the last entry of the part.
+    fn pop(&mut self, part: u32)
+        requires { 0 < length (of_part self.old part) }
+        ensures popped { of_part self.new part
+            ≡ take (length (of_part self.old part) - 1) (of_part self.old part) }
+        ensures others { ChangesOnly part self.old self.new }
+    {
+        let entry = self.parts[part as usize].pop();
+        let shard = shard_key::of_record(self.order, part, entry.offset, entry.key);
+        self.queues.pop_back(shard);
     }
 }
 

@@ -80,6 +80,32 @@ fn parts_are_apart(rt: HostRuntime) -> Result<(), Fail> {
     shards.drop_part(2);
     assert_eq!(rt; shards.least_ready(0), Some(0));
     assert_eq!(rt; shards.least_ready(2), None);
+    shards.clear();
+    assert_eq!(rt; shards.least_ready(0), None);
+    shards.add(0, 3, None)?;
+    assert_eq!(rt; shards.least_ready(0), Some(3));
+    Ok(())
+}
+
+#[test]
+fn cut_back_to_each_length(rt: HostRuntime) -> Result<(), Fail> {
+    for (len, first, second, third) in [
+        (3, Some(4), Some(6), Some(7)),
+        (2, Some(4), Some(6), None),
+        (1, Some(4), None, None),
+        (0, None, None, None),
+    ] {
+        let mut shards = Shards::new(rt.alloc(), Order::Key);
+        shards.add_all(0, &[(4, Some(b"a")), (6, None), (7, Some(b"a"))])?;
+        shards.cut(0, len);
+        let least = busy_next(&mut shards);
+        assert_eq!(rt; least, first);
+        assert_eq!(rt; busy_next(&mut shards), second);
+        if let Some(offset) = least {
+            shards.done(0, offset);
+        }
+        assert_eq!(rt; shards.least_ready(0), third);
+    }
     Ok(())
 }
 

@@ -1,11 +1,11 @@
 //! The result of a job.
 
-ghost use Rattle.std.specs.Prelude.{◌≡◌, IfOk};
+ghost use Rattle.std.specs.Prelude.{◌≡◌, ◌↔◌, IfOk, IsTrue};
 ghost use Rattle.pc_model.specs.Outcomes.{outcome_of};
 ghost use Rattle.pc_batch.specs.Record.{plain};
 
 use pc_batch::RecordRef;
-use pc_model::{Answer, Outcome, Rules};
+use pc_model::{Answer, FailRule, Outcome, Rules};
 use std::alloc::{AllocError, Global};
 
 /// A job that was worked on, with the outcome that its rules give.
@@ -41,6 +41,28 @@ impl<'a> Finished<'a> {
             outcome: copy_of(alloc, &self.outcome)?,
         })
     }
+
+    /// Whether the result is of this record under these rules, compared as values.
+    pub fn is_of(&self, entry: &RecordRef<'_>, rules: &Rules) -> bool
+        ensures { IsTrue result
+            ↔ ((plain self.now.entry ≡ plain entry.now) × (self.now.rules.now ≡ rules.now)) }
+    {
+        self.entry.is_same(entry) && same_rules(self.rules, rules)
+    }
+}
+
+/// Whether both rules have the same function and the same records that fail, in the same order.
+fn same_rules(one: &Rules, other: &Rules) -> bool
+    ensures { IsTrue result ↔ (one.now ≡ other.now) }
+{
+    one.work == other.work && same_fails(one.fails.as_slice(), other.fails.as_slice())
+}
+
+/// Whether both are the same rules in the same order.
+fn same_fails(one: &[FailRule], other: &[FailRule]) -> bool
+    ensures { IsTrue result ↔ (one.now ≡ other.now) }
+{
+    one == other
 }
 
 /// A copy of an outcome.

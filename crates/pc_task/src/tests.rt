@@ -1,8 +1,9 @@
 //! Tables of answers and outcomes.
 
-use crate::{Job, RuleTask, Task, answer_of};
-use pc_batch::read_batch;
+use crate::{Finished, Job, RuleTask, Task, answer_of};
+use pc_batch::{RecordRef, read_batch};
 use pc_model::{FailRule, FailRules, Outcome, Rules, Work};
+use std::alloc::{AllocError, Global};
 use std::test::Fail;
 
 // One batch with the records (0, "a", "x"), (1, "b", "yy") and (2, "a", "zzz").
@@ -62,7 +63,7 @@ fn a_record_fails_as_often_as_its_first_rule_says(rt: HostRuntime) -> Result<(),
         work: Work::Length,
         fails: FailRules::from_slice(rt.alloc(), &[rule(1, 9), rule(0, 2), rule(0, 9)])?,
     };
-    let batch = read_batch(&THREE_RECORDS, 0).map_err(|_| std::alloc::AllocError)?;
+    let batch = read_batch(&THREE_RECORDS, 0).map_err(|_| AllocError)?;
     for (attempt, answer) in ATTEMPTS {
         let mut records = batch.records();
         let _first = records.next();
@@ -89,6 +90,66 @@ fn a_record_fails_as_often_as_its_first_rule_says(rt: HostRuntime) -> Result<(),
             }
             Err(_) => job.abandon(),
         }
+    }
+    Ok(())
+}
+
+/// The result of a record's first attempt.
+fn result_of<'a>(
+    alloc: Global,
+    entry: RecordRef<'a>,
+    rules: &'a Rules,
+) -> Result<Finished<'a>, AllocError> {
+    let job = Job {
+        ticket: 1,
+        worker: 0,
+        part: 0,
+        epoch: 1,
+        attempt: 1,
+        entry,
+        rules,
+    };
+    match RuleTask.call(alloc, &job) {
+        Ok(outcome) => Ok(job.finish(outcome)),
+        Err(error) => {
+            job.abandon();
+            Err(error)
+        }
+    }
+}
+
+/// Rules of which the record at offset 1 fails so many attempts.
+fn rules_of(alloc: Global, work: Work, times: u32) -> Result<Rules, AllocError> {
+    let rule = FailRule {
+        part: 0,
+        offset: 1,
+        times,
+    };
+    Ok(Rules {
+        work,
+        fails: FailRules::from_slice(alloc, &[rule])?,
+    })
+}
+
+/// Which of three records, a function and a number of failures, and whether the result of the
+/// second record under `Length` and two failures is of that.
+const RESULTS: [(usize, Work, u32, bool); 4] = [
+    (1, Work::Length, 2, true),
+    (2, Work::Length, 2, false),
+    (1, Work::Hex, 2, false),
+    (1, Work::Length, 3, false),
+];
+
+#[test]
+fn a_result_is_of_its_record_under_its_rules(rt: HostRuntime) -> Result<(), Fail> {
+    let batch = read_batch(&THREE_RECORDS, 0).map_err(|_| AllocError)?;
+    let own = rules_of(rt.alloc(), Work::Length, 2)?;
+    let entry = batch.records().nth(1).ok_or("a second record")?;
+    let done = result_of(rt.alloc(), entry, &own)?;
+    for (place, work, times, is_of) in RESULTS {
+        let rules = rules_of(rt.alloc(), work, times)?;
+        let other = batch.records().nth(place).ok_or("a record")?;
+        assert_eq!(rt; done.is_of(&other, &rules), is_of, "{place} and {times}");
     }
     Ok(())
 }

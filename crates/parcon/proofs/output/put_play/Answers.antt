@@ -4,7 +4,7 @@ use Rattle.std.specs.List.{flat_map}
 use Rattle.pc_print.specs.Line.{line_of}
 use Rattle.parcon.specs.Ending.{remark_line}
 use Rattle.parcon.specs.Written.{HasFront, IsOnItsWay, with_bytes}
-use Rattle.parcon.proofs.WrittenLemmas.{way-begin, front-longer, play_text-lines}
+use Rattle.parcon.proofs.WrittenLemmas.{way-begin, front-longer, text_with-lines}
 use Rattle.parcon.proofs.output.put_play.Goals as goal
 
 pub returns-in_err-put_events-clause-front : goal.returns-in_err-put_events-clause-front
@@ -14,7 +14,7 @@ returns-in_err-put_events-clause-front g c =
     let way = subst (λ (b : List ℕ). IsOnItsWay old old b []) (sym c.new-buffer.ensures.items)
     (way-begin old []) in
     subst (HasFront old now)
-    (play_text-lines c.as_slice.result.now c.args.journal.now.events c.args.remarks.now
+    (text_with-lines c.as_slice.result.now c.args.journal.now.events c.args.remarks.now
     c.as_slice.ensures)
     (front-longer old now (flat_map line_of c.as_slice.result.now)
     (flat_map remark_line c.args.remarks.now) (c.in_err-put_events.ensures.err old [] way))
@@ -26,7 +26,7 @@ returns-in_err-put_remarks-clause-front g c =
     let way = subst (λ (b : List ℕ). IsOnItsWay old old b []) (sym c.new-buffer.ensures.items)
     (way-begin old []) in
     subst (HasFront old now)
-    (play_text-lines c.as_slice.result.now c.args.journal.now.events c.args.remarks.now
+    (text_with-lines c.as_slice.result.now c.args.journal.now.events c.args.remarks.now
     c.as_slice.ensures)
     (c.in_err-put_remarks.ensures.err old (flat_map line_of c.as_slice.result.now)
     (c.in_ok-put_events.ensures.ok old [] way))
@@ -38,7 +38,7 @@ returns-in_err-flush-clause-front g c =
     let way = subst (λ (b : List ℕ). IsOnItsWay old old b []) (sym c.new-buffer.ensures.items)
     (way-begin old []) in
     subst (HasFront old now)
-    (play_text-lines c.as_slice.result.now c.args.journal.now.events c.args.remarks.now
+    (text_with-lines c.as_slice.result.now c.args.journal.now.events c.args.remarks.now
     c.as_slice.ensures)
     (c.flush.ensures.front old _
     (c.in_ok-put_remarks.ensures.ok old (flat_map line_of c.as_slice.result.now)
@@ -51,7 +51,7 @@ returns-clause-whole g c =
     let way = subst (λ (b : List ℕ). IsOnItsWay old old b []) (sym c.new-buffer.ensures.items)
     (way-begin old []) in
     subst (λ (t : List ℕ). now ≡ with_bytes old t)
-    (play_text-lines c.as_slice.result.now c.args.journal.now.events c.args.remarks.now
+    (text_with-lines c.as_slice.result.now c.args.journal.now.events c.args.remarks.now
     c.as_slice.ensures)
     (c.in_ok-flush.ensures.whole old _
     (c.in_ok-put_remarks.ensures.ok old (flat_map line_of c.as_slice.result.now)
@@ -64,7 +64,7 @@ returns-clause-front g c =
     let way = subst (λ (b : List ℕ). IsOnItsWay old old b []) (sym c.new-buffer.ensures.items)
     (way-begin old []) in
     subst (HasFront old now)
-    (play_text-lines c.as_slice.result.now c.args.journal.now.events c.args.remarks.now
+    (text_with-lines c.as_slice.result.now c.args.journal.now.events c.args.remarks.now
     c.as_slice.ensures)
     (c.flush.ensures.front old _
     (c.in_ok-put_remarks.ensures.ok old (flat_map line_of c.as_slice.result.now)

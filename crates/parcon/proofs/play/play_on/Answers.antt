@@ -1,41 +1,44 @@
 -- From the start on the lines are played, and what the link keeps is as before but for the part.
-use Rattle.std.proofs.Common.{sym, subst}
+use Rattle.std.proofs.Common.{sym, subst, List}
 use Rattle.pc_model.specs.History.{History}
+use Rattle.pc_task.specs.Jobs.{PlainJob}
 use Rattle.parcon.specs.Play.{PlaysTo, start}
-use Rattle.parcon.proofs.PlayLemmas.{kept-from, plays-from-start, if_ok, if_err}
+use Rattle.parcon.proofs.PlayLemmas.{kept-from, lead-from-start, if_ok, if_err}
 use Rattle.parcon.proofs.play.play_on.Goals as goal
 
 pub returns-in-Ok-clause-kept : goal.returns-in-Ok-clause-kept
-returns-in-Ok-clause-kept g c = kept-from c.args.engine.given c.play_lines.new.engine.given
-    (g.L.Link.is_told c.args.engine.link) (g.L.Link.is_told c.play_lines.new.engine.link)
-    (g.L.Link.store c.args.engine.link) (g.L.Link.store c.play_lines.new.engine.link)
-    (g.L.Link.store c.left.result.link) c.left.result.journal.events c.play_lines.ensures.given
-    c.left.ensures.told c.play_lines.ensures.told c.play_lines.ensures.keeps c.left.ensures.kept
+returns-in-Ok-clause-kept g c = kept-from c.args.engine.given c.play_lines-played.new.engine.given
+    (g.L.Link.is_told c.args.engine.link) (g.L.Link.is_told c.play_lines-played.new.engine.link)
+    (g.L.Link.store c.args.engine.link) (g.L.Link.store c.play_lines-played.new.engine.link)
+    (g.L.Link.store c.left.result.link) c.left.result.journal.events c.play_lines-played.ensures.given
+    c.left.ensures.told c.play_lines-played.ensures.told c.play_lines-played.ensures.keeps c.left.ensures.kept
 
 pub returns-in-Err-clause-kept : goal.returns-in-Err-clause-kept
-returns-in-Err-clause-kept g c = kept-from c.args.engine.given c.play_lines.new.engine.given
-    (g.L.Link.is_told c.args.engine.link) (g.L.Link.is_told c.play_lines.new.engine.link)
-    (g.L.Link.store c.args.engine.link) (g.L.Link.store c.play_lines.new.engine.link)
-    (g.L.Link.store c.left-in-Err.result.link) c.left-in-Err.result.journal.events c.play_lines.ensures.given
-    c.left-in-Err.ensures.told c.play_lines.ensures.told c.play_lines.ensures.keeps c.left-in-Err.ensures.kept
+returns-in-Err-clause-kept g c = kept-from c.args.engine.given c.play_lines-played.new.engine.given
+    (g.L.Link.is_told c.args.engine.link) (g.L.Link.is_told c.play_lines-played.new.engine.link)
+    (g.L.Link.store c.args.engine.link) (g.L.Link.store c.play_lines-played.new.engine.link)
+    (g.L.Link.store c.left-in-Err.result.link) c.left-in-Err.result.journal.events c.play_lines-played.ensures.given
+    c.left-in-Err.ensures.told c.play_lines-played.ensures.told c.play_lines-played.ensures.keeps c.left-in-Err.ensures.kept
 
 pub returns-in-Ok-clause-played : goal.returns-in-Ok-clause-played
 returns-in-Ok-clause-played g c =
-    if_ok c.left.result.remarks c.play_lines.new.remarks _ c.left.ensures.remarks
-    (subst (λ (h : History). PlaysTo c.args.engine.given start c.args.lines.now
-    (g.L.Link.faults c.args.engine.link) (g.L.Link.faults c.left.result.link)
-    (record { history = h.events; remarks = c.play_lines.new.remarks.items }))
+    if_ok c.left.result.remarks c.play_lines-played.new.remarks _ c.left.ensures.remarks
+    (subst (λ (h : History). (jobs : List PlainJob) × PlaysTo c.args.engine.given start
+    c.args.lines.now (g.L.Link.faults c.args.engine.link) (g.L.Link.faults c.left.result.link)
+    (record { history = h.events; hand = jobs; remarks = c.play_lines-played.new.remarks.items }))
     (sym c.left.ensures.journal)
-    (subst (λ l. PlaysTo c.args.engine.given start c.args.lines.now
+    (subst (λ l. (jobs : List PlainJob) × PlaysTo c.args.engine.given start c.args.lines.now
     (g.L.Link.faults c.args.engine.link) (g.L.Link.faults l)
     (record {
-      history = c.play_lines.new.engine.journal.events;
-      remarks = c.play_lines.new.remarks.items;
+      history = c.play_lines-played.new.engine.journal.events;
+      hand = jobs;
+      remarks = c.play_lines-played.new.remarks.items;
     })) (sym c.left.ensures.link)
-    (plays-from-start c.args.engine.given c.args.engine.journal.events
+    (lead-from-start c.args.engine.given c.args.engine.journal.events
     c.new-remarks.result.items c.args.lines.now (g.L.Link.faults c.args.engine.link)
-    (g.L.Link.faults c.play_lines.new.engine.link) _ c.requires c.new-remarks.ensures.items
-    c.in-Ok.ensures.ok)))
+    (g.L.Link.faults c.play_lines-played.new.engine.link) c.play_lines-played.new.engine.journal.events
+    c.new-hand.result c.play_lines-played.new.hand c.play_lines-played.new.remarks.items c.requires.empty
+    c.new-remarks.ensures.items c.new-hand.ensures c.in-Ok.ensures.ok)))
 
 pub returns-in-Err-clause-played : goal.returns-in-Err-clause-played
 returns-in-Err-clause-played g c =

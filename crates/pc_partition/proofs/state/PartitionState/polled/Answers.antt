@@ -1,13 +1,7 @@
 -- One offset after the other, in the room that was made.
 use Rattle.std.proofs.Common.{arith}
-use Rattle.pc_partition.proofs.RunsLemmas.{length-runs}
 use Rattle.pc_partition.proofs.WindowLemmas.{IsPolledNext-one, StandsFor-polled}
 use Rattle.pc_partition.proofs.state.PartitionState.polled.Goals as goal
-
-pub overflow_sub-room : goal.overflow_sub-room
-overflow_sub-room c = rw c.as_slice.ensures.value
-    (let few = length-runs 0 c.self.inside.after c.self.inside.runs.list.items c.self.invariant.in_order in
-    omega (arith, few, c.self.invariant.left_is))
 
 pub returns-clause-polled : goal.returns-clause-polled
 returns-clause-polled c = λ begin n marks is next. StandsFor-polled c.args.self.now.window c.loop-offset.self.window

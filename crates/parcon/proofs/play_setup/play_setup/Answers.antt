@@ -1,0 +1,69 @@
+-- What the play left is told.
+use Rattle.std.proofs.Common.{Ok, [], List, sym, subst}
+use Rattle.pc_script.specs.declared.play.PlayLine.{PlayLine}
+use Rattle.pc_task.specs.Jobs.{PlainJob}
+use Rattle.std.specs.Prelude.{IfOk}
+use Rattle.pc_offset_client.specs.Client.{kept_for}
+use Rattle.pc_engine.specs.Engine.{given_by}
+use Rattle.parcon.specs.Play.{PlaysTo, start}
+use Rattle.parcon.specs.Promise.{IsKept}
+use Rattle.parcon.proofs.PromiseLemmas.{ends-played, plays-kept}
+use Rattle.parcon.proofs.play_setup.play_setup.Goals as goal
+
+pub returns : goal.returns
+returns g c =
+    let given = given_by c.args.setup.now c.args.logs.now [] (g.L.Link.is_told c.args.link)
+    (kept_for (g.L.Link.store c.args.link)) in
+    plays-kept given (Ok c.args.script.now)
+    (record {
+      is_told = g.L.Link.is_told c.args.link;
+      store = g.L.Link.store c.args.link;
+      link_faults = g.L.Link.faults c.args.link;
+      written = g.O.Sink.written c.args.out.now;
+      write_faults = g.O.Sink.faults c.args.out.now;
+    })
+    (record {
+      is_told = g.L.Link.is_told c.tell.result.link;
+      store = g.L.Link.store c.tell.result.link;
+      link_faults = g.L.Link.faults c.tell.result.link;
+      written = g.O.Sink.written c.tell.new.out;
+      write_faults = g.O.Sink.faults c.tell.new.out;
+    })
+    c.tell.result.status c.tell.result.journal.events c.play-played.result.journal.events
+    (subst (λ l. IsKept given (g.L.Link.store c.args.link) (g.L.Link.store l)
+    c.play-played.result.journal.events) (sym c.tell.ensures.link) c.play-played.ensures.kept)
+    c.tell.ensures.journal
+    (ends-played given
+    (record {
+      is_told = g.L.Link.is_told c.args.link;
+      store = g.L.Link.store c.args.link;
+      link_faults = g.L.Link.faults c.args.link;
+      written = g.O.Sink.written c.args.out.now;
+      write_faults = g.O.Sink.faults c.args.out.now;
+    })
+    (record {
+      is_told = g.L.Link.is_told c.tell.result.link;
+      store = g.L.Link.store c.tell.result.link;
+      link_faults = g.L.Link.faults c.tell.result.link;
+      written = g.O.Sink.written c.tell.new.out;
+      write_faults = g.O.Sink.faults c.tell.new.out;
+    })
+    (λ remarks. remarks.items) c.args.script.now c.play-played.result.remarks c.tell.result.status
+    c.tell.result.journal.events c.play-played.result.journal.events
+    (subst (λ l. IfOk c.play-played.result.remarks (λ remarks. (jobs : List PlainJob)
+    × PlaysTo given start c.args.script.now (g.L.Link.faults c.args.link) (g.L.Link.faults l)
+    (record {
+      history = c.play-played.result.journal.events;
+      hand = jobs;
+      remarks = remarks.items;
+    })))
+    (sym c.tell.ensures.link)
+    (subst (λ (lines : List PlayLine). IfOk c.play-played.result.remarks (λ remarks. (jobs : List PlainJob)
+    × PlaysTo given start lines (g.L.Link.faults c.args.link)
+    (g.L.Link.faults c.play-played.result.link)
+    (record {
+      history = c.play-played.result.journal.events;
+      hand = jobs;
+      remarks = remarks.items;
+    }))) c.as_slice.ensures.lines c.play-played.ensures.played))
+    c.tell.ensures.journal c.tell.ensures.written)

@@ -1,0 +1,266 @@
+//! The calls of the engine, one for each line of a script, and what is to be remarked of each.
+
+ghost use Rattle.std.specs.Prelude.{◌≡◌, ◌≤◌, ◌<◌, ◌++◌, ℕ, List, true, IfOk, Some, Ok};
+ghost use Rattle.pc_model.specs.Given.{has_log};
+ghost use Rattle.pc_script.specs.PlayScript.{IsPlayable};
+ghost use Rattle.pc_script.specs.declared.play.PlayAct.TheVariants.{Assign, Commit, Poll, Take, End, Revoke, Lose, Crash};
+ghost use Rattle.pc_task.specs.Jobs.{PlainJob, plain_job};
+ghost use Rattle.pc_engine.specs.declared.fault.EngineFault.TheVariants.{NoMemory};
+ghost use Rattle.pc_engine.specs.Effect.{IsExpected, StoresOnly};
+ghost use Rattle.parcon.specs.declared.hand.Hand.{Hand};
+ghost use Rattle.parcon.specs.declared.remark.Notice.TheVariants.{Refused};
+ghost use Rattle.parcon.specs.Hand.{HasInHand};
+ghost use Rattle.parcon.specs.Play.{Makes, end_job, poll_notice, settled_notice};
+
+use crate::hand::Hand;
+use crate::remark::Notice;
+use pc_engine::{Engine, EngineFault, Settled};
+use pc_script::PlayAct;
+use pc_task::{Job, RuleTask, Task};
+use pc_world::Link;
+use std::alloc::{AllocError, Global};
+
+/// Makes the call that a line asks for, and answers what is to be remarked of it. A line that the
+/// program cannot play makes none. The error is want of memory.
+pub(crate) fn call<'a, L: Link>(
+    alloc: Global,
+    engine: &mut Engine<'a, L>,
+    hand: &mut Hand<'a>,
+    act: PlayAct,
+) -> Result<Option<Notice>, AllocError>
+    requires { IsPlayable act }
+    ensures makes { IfOk result (λ notice. (jobs : List PlainJob)
+        → HasInHand engine.old.given engine.old.journal.events jobs hand.old
+        → Makes engine.old.given engine.old.journal.events jobs act
+        (L.faults engine.old.link) (L.faults engine.new.link) engine.new.journal.events hand.new
+        notice) }
+    ensures keeps { L.is_told engine.old.link ≡ true → StoresOnly (has_log engine.old.given)
+        (L.store engine.old.link) (L.store engine.new.link) }
+    ensures given { engine.new.given ≡ engine.old.given }
+    ensures told { L.is_told engine.new.link ≡ L.is_told engine.old.link }
+    ensures count { L.faults engine.old.link ≤ L.faults engine.new.link }
+{
+    match act {
+        PlayAct::Assign(part) => assign(engine, part),
+        PlayAct::Commit(part) => commit(engine, part),
+        PlayAct::Poll { part, max } => poll(engine, part, max),
+        PlayAct::Take(worker) => take(engine, hand, worker),
+        PlayAct::End(ticket) => end(alloc, engine, hand, ticket),
+        PlayAct::Revoke(part) => revoke(engine, part),
+        PlayAct::Lose(part) => lose(engine, part),
+        PlayAct::Crash => crash(engine),
+        _ => Ok(None),
+    }
+}
+
+/// Assigns a part.
+fn assign<L: Link>(engine: &mut Engine<'_, L>, part: u32) -> Result<Option<Notice>, AllocError>
+    ensures makes { IfOk result (λ notice. (jobs : List PlainJob) (hand : Hand)
+        → HasInHand engine.old.given engine.old.journal.events jobs hand
+        → Makes engine.old.given engine.old.journal.events jobs (Assign part)
+        (L.faults engine.old.link) (L.faults engine.new.link) engine.new.journal.events hand
+        notice) }
+    ensures keeps { L.is_told engine.old.link ≡ true → StoresOnly (has_log engine.old.given)
+        (L.store engine.old.link) (L.store engine.new.link) }
+    ensures given { engine.new.given ≡ engine.old.given }
+    ensures told { L.is_told engine.new.link ≡ L.is_told engine.old.link }
+    ensures count { L.faults engine.old.link ≤ L.faults engine.new.link }
+{
+    match engine.assign(part) {
+        Ok(()) => Ok(None),
+        Err(fault) => refused(fault),
+    }
+}
+
+/// Commits a part.
+fn commit<L: Link>(engine: &mut Engine<'_, L>, part: u32) -> Result<Option<Notice>, AllocError>
+    ensures makes { IfOk result (λ notice. (jobs : List PlainJob) (hand : Hand)
+        → HasInHand engine.old.given engine.old.journal.events jobs hand
+        → Makes engine.old.given engine.old.journal.events jobs (Commit part)
+        (L.faults engine.old.link) (L.faults engine.new.link) engine.new.journal.events hand
+        notice) }
+    ensures keeps { L.is_told engine.old.link ≡ true → StoresOnly (has_log engine.old.given)
+        (L.store engine.old.link) (L.store engine.new.link) }
+    ensures given { engine.new.given ≡ engine.old.given }
+    ensures told { L.is_told engine.new.link ≡ L.is_told engine.old.link }
+    ensures count { L.faults engine.old.link ≤ L.faults engine.new.link }
+{
+    match engine.commit(part) {
+        Ok(_) => Ok(None),
+        Err(fault) => refused(fault),
+    }
+}
+
+/// Polls the next records of a part.
+fn poll<L: Link>(
+    engine: &mut Engine<'_, L>,
+    part: u32,
+    max: u32,
+) -> Result<Option<Notice>, AllocError>
+    requires { IsPlayable (Poll part max) }
+    ensures makes { IfOk result (λ notice. (jobs : List PlainJob) (hand : Hand)
+        → HasInHand engine.old.given engine.old.journal.events jobs hand
+        → Makes engine.old.given engine.old.journal.events jobs (Poll part max)
+        (L.faults engine.old.link) (L.faults engine.new.link) engine.new.journal.events hand
+        notice) }
+    ensures given { engine.new.given ≡ engine.old.given }
+    ensures link { engine.new.link ≡ engine.old.link }
+{
+    match engine.poll(part, max) {
+        Ok(count) => Ok(polled(count)),
+        Err(fault) => refused(fault),
+    }
+}
+
+/// What is to be remarked of a poll of so many records.
+fn polled(count: u32) -> Option<Notice>
+    ensures { result ≡ poll_notice (Ok count) }
+{
+    if count == 0 {
+        Some(Notice::AtEnd)
+    } else {
+        None
+    }
+}
+
+/// Takes a job into hand.
+fn take<'a, L: Link>(
+    engine: &mut Engine<'a, L>,
+    hand: &mut Hand<'a>,
+    worker: u32,
+) -> Result<Option<Notice>, AllocError>
+    requires { worker < 256 }
+    ensures makes { IfOk result (λ notice. (jobs : List PlainJob)
+        → HasInHand engine.old.given engine.old.journal.events jobs hand.old
+        → Makes engine.old.given engine.old.journal.events jobs (Take worker)
+        (L.faults engine.old.link) (L.faults engine.new.link) engine.new.journal.events hand.new
+        notice) }
+    ensures given { engine.new.given ≡ engine.old.given }
+    ensures link { engine.new.link ≡ engine.old.link }
+{
+    match engine.take(worker) {
+        Ok(Some(job)) => {
+            hand.add(job)?;
+            Ok(None)
+        }
+        Ok(None) => Ok(Some(Notice::NoJob)),
+        Err(fault) => refused(fault),
+    }
+}
+
+/// Ends the job in hand with a ticket.
+fn end<'a, L: Link>(
+    alloc: Global,
+    engine: &mut Engine<'a, L>,
+    hand: &mut Hand<'a>,
+    ticket: u64,
+) -> Result<Option<Notice>, AllocError>
+    ensures makes { IfOk result (λ notice. (jobs : List PlainJob)
+        → HasInHand engine.old.given engine.old.journal.events jobs hand.old
+        → Makes engine.old.given engine.old.journal.events jobs (End ticket)
+        (L.faults engine.old.link) (L.faults engine.new.link) engine.new.journal.events hand.new
+        notice) }
+    ensures given { engine.new.given ≡ engine.old.given }
+    ensures link { engine.new.link ≡ engine.old.link }
+{
+    match hand.remove(ticket) {
+        Some(job) => settle(alloc, engine, job),
+        None => Ok(Some(Notice::Stranger)),
+    }
+}
+
+/// Settles a job with the outcome that its rules give.
+fn settle<'a, L: Link>(
+    alloc: Global,
+    engine: &mut Engine<'a, L>,
+    job: Job<'a>,
+) -> Result<Option<Notice>, AllocError>
+    ensures settles { IfOk result (λ notice. (others : List PlainJob)
+        → IsExpected engine.old.given engine.old.journal.events (plain_job job.entry)
+        → let step = end_job engine.old.given engine.old.journal.events others
+        (plain_job job.entry) in
+        (engine.new.journal.events ≡ step.events ++ engine.old.journal.events)
+        × (notice ≡ step.notice)) }
+    ensures given { engine.new.given ≡ engine.old.given }
+    ensures link { engine.new.link ≡ engine.old.link }
+{
+    match RuleTask.call(alloc, &job) {
+        Ok(outcome) => Ok(settled(engine.settle(job.finish(outcome)))),
+        Err(error) => {
+            job.abandon();
+            Err(error)
+        }
+    }
+}
+
+/// What is to be remarked of a result that was settled, or not.
+fn settled(settled: Settled<'_>) -> Option<Notice>
+    ensures { result ≡ settled_notice settled.entry }
+{
+    match settled {
+        Settled::Closed(_) => Some(Notice::Refused(EngineFault::Closed)),
+        Settled::Stranger(_) => Some(Notice::Stranger),
+        Settled::Stale | Settled::Succeeded | Settled::Failed { .. } => None,
+    }
+}
+
+/// Gives a part back. Where its commit failed, the events say so.
+fn revoke<L: Link>(engine: &mut Engine<'_, L>, part: u32) -> Result<Option<Notice>, AllocError>
+    ensures makes { IfOk result (λ notice. (jobs : List PlainJob) (hand : Hand)
+        → HasInHand engine.old.given engine.old.journal.events jobs hand
+        → Makes engine.old.given engine.old.journal.events jobs (Revoke part)
+        (L.faults engine.old.link) (L.faults engine.new.link) engine.new.journal.events hand
+        notice) }
+    ensures keeps { L.is_told engine.old.link ≡ true → StoresOnly (has_log engine.old.given)
+        (L.store engine.old.link) (L.store engine.new.link) }
+    ensures given { engine.new.given ≡ engine.old.given }
+    ensures told { L.is_told engine.new.link ≡ L.is_told engine.old.link }
+    ensures count { L.faults engine.old.link ≤ L.faults engine.new.link }
+{
+    match engine.revoke(part) {
+        Ok(_) => Ok(None),
+        Err(fault) => refused(fault),
+    }
+}
+
+/// Loses a part.
+fn lose<L: Link>(engine: &mut Engine<'_, L>, part: u32) -> Result<Option<Notice>, AllocError>
+    ensures makes { IfOk result (λ notice. (jobs : List PlainJob) (hand : Hand)
+        → HasInHand engine.old.given engine.old.journal.events jobs hand
+        → Makes engine.old.given engine.old.journal.events jobs (Lose part)
+        (L.faults engine.old.link) (L.faults engine.new.link) engine.new.journal.events hand
+        notice) }
+    ensures given { engine.new.given ≡ engine.old.given }
+    ensures link { engine.new.link ≡ engine.old.link }
+{
+    match engine.lose(part) {
+        Ok(()) => Ok(None),
+        Err(fault) => refused(fault),
+    }
+}
+
+/// Lets the engine crash. The jobs in hand stay there.
+fn crash<L: Link>(engine: &mut Engine<'_, L>) -> Result<Option<Notice>, AllocError>
+    ensures makes { IfOk result (λ notice. (jobs : List PlainJob) (hand : Hand)
+        → HasInHand engine.old.given engine.old.journal.events jobs hand
+        → Makes engine.old.given engine.old.journal.events jobs Crash
+        (L.faults engine.old.link) (L.faults engine.new.link) engine.new.journal.events hand
+        notice) }
+    ensures given { engine.new.given ≡ engine.old.given }
+    ensures link { engine.new.link ≡ engine.old.link }
+{
+    match engine.crash() {
+        Ok(()) => Ok(None),
+        Err(fault) => refused(fault),
+    }
+}
+
+/// A refusal, which is to be remarked unless memory was wanting.
+fn refused(fault: EngineFault) -> Result<Option<Notice>, AllocError>
+    ensures { IfOk result (λ notice. (fault ≡ NoMemory → ⊥) × (notice ≡ Some (Refused fault))) }
+{
+    match fault {
+        EngineFault::NoMemory => Err(AllocError),
+        fault => Ok(Some(Notice::Refused(fault))),
+    }
+}

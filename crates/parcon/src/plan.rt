@@ -1,0 +1,159 @@
+//! What is played, or the status that ends a play before it begins.
+
+ghost use Rattle.std.specs.Prelude.{◌≡◌, ◌≤◌, ◌⊎◌, ◌<◌, Err, IfErr, IfOk, OnOk, length, map};
+ghost use Rattle.std.specs.Result.{result_map_both};
+ghost use Rattle.pc_cursor.specs.Log.{all_batches, contents_of, records_of};
+ghost use Rattle.parcon.specs.Reading.{text_of, texts_of};
+ghost use Rattle.parcon.specs.Plan.{AddsLog, IsOverfull, built_lines, checked_logs, few_records, first_unbuilt, is_built, lines_behind, lines_of_script, log_or_status, logs_of, logs_with};
+ghost use Rattle.parcon.specs.Promise.{default_setup};
+ghost use Rattle.parcon.specs.declared.status.Status.TheVariants.{NoMemory};
+
+use crate::reading::{LogText, Texts};
+use crate::status::{LimitKind, Status};
+use pc_broker_log::{AddFault, BrokerLogs};
+use pc_cursor::{CheckFault, Log};
+use pc_model::{NameText, Setup};
+use pc_script::{PlayAct, PlayLine, PlayScript, read_play};
+use std::alloc::Global;
+
+/// The most records that all logs may have together.
+const RECORDS_MAX: u64 = 1_000_000;
+
+/// What is played: a script over logs, with a setup.
+#[derive(Debug, Drop)]
+pub(crate) struct Plan<'a> {
+    pub(crate) setup: Setup,
+    pub(crate) logs: BrokerLogs<'a>,
+    pub(crate) script: PlayScript,
+}
+
+/// What the texts of a play's files ask for, with the setup that holds where nothing else is said,
+/// or the status that ends the play before it begins: of the logs in order, of the number of their
+/// records, of the script, the first that applies.
+pub(crate) fn plan_of<'a>(alloc: Global, texts: &'a Texts<'_>) -> Result<Plan<'a>, Status>
+    requires { length texts.now.logs.items ≤ 1_024 }
+    ensures lines { (result ≡ Err NoMemory)
+        ⊎ (result_map_both (λ plan. plan.script) (λ s. s) result
+        ≡ lines_behind (texts_of texts.now)) }
+    ensures logs { IfOk result (λ plan. plan.logs ≡ logs_of (map text_of texts.now.logs.items)) }
+    ensures setup { IfOk result (λ plan. plan.setup ≡ default_setup) }
+{
+    let checked = checked_logs(alloc, texts.logs.as_slice())?;
+    let logs = broker_logs(alloc, checked)?;
+    let script = built_script(alloc, texts.script.as_slice())?;
+    let setup = Setup::with_defaults(alloc)?;
+    Ok(Plan {
+        setup,
+        logs,
+        script,
+    })
+}
+
+/// The logs of the texts, which have to read.
+fn checked_logs<'a>(alloc: Global, texts: &'a [LogText<'_>]) -> Result<Vec<Log<'a>>, Status>
+    requires { length texts.now ≤ 1_024 }
+    ensures value { (result ≡ Err NoMemory) ⊎ (result_map_both (λ logs. logs.items) (λ s. s) result
+        ≡ checked_logs (map text_of texts.now)) }
+    ensures count { IfOk result (λ logs. length logs.items ≤ 1_024) }
+{
+    let mut logs = Vec::new(alloc);
+    for text in texts {
+        logs.push(checked(alloc, text.name, text.bytes.as_slice())?)?;
+    }
+    Ok(logs)
+}
+
+/// A file's log, which has to read.
+fn checked<'a>(alloc: Global, name: &str, log: &'a [u8]) -> Result<Log<'a>, Status>
+    ensures { (result ≡ Err NoMemory)
+        ⊎ (result ≡ log_or_status name.now (all_batches log.now)) }
+{
+    match Log::check(alloc, log) {
+        Ok(log) => Ok(log),
+        Err(CheckFault::Bad(bad)) => Err(Status::BadLog {
+            name: NameText::from_str(alloc, name)?,
+            place: bad.place,
+            fault: bad.fault,
+        }),
+        Err(CheckFault::NoMemory) => Err(Status::NoMemory),
+    }
+}
+
+/// The logs by their parts, unless they have too many records together.
+fn broker_logs<'a>(alloc: Global, checked: Vec<Log<'a>>) -> Result<BrokerLogs<'a>, Status>
+    requires { length checked.items ≤ 1_024 }
+    ensures { (result ≡ Err NoMemory) ⊎ (result ≡ few_records (logs_with checked.entry.items)) }
+{
+    let mut logs = BrokerLogs::new(alloc);
+    let mut part = 0;
+    for log in checked {
+        add_next(&mut logs, part, log)?;
+        part += 1;
+    }
+    Ok(logs)
+}
+
+/// Gives the next part its log, unless all logs have too many records together with it.
+fn add_next<'a>(logs: &mut BrokerLogs<'a>, part: u32, log: Log<'a>) -> Result<(), Status>
+    requires next { part ≡ length logs.now }
+    requires known { part < 1_024 }
+    ensures ok { OnOk result
+        (AddsLog logs.old (records_of (contents_of log.entry)) logs.new) }
+    ensures err { IfErr result (λ status. (status ≡ NoMemory)
+        ⊎ IsOverfull logs.old (records_of (contents_of log.entry)) status) }
+{
+    match logs.add(part, log) {
+        Ok(()) => Ok(()),
+        Err(AddFault::TooManyRecords) => Err(Status::Limit {
+            which: LimitKind::Records,
+            number: RECORDS_MAX,
+        }),
+        Err(AddFault::NoMemory) => Err(Status::NoMemory),
+        Err(AddFault::UnknownPart | AddFault::TwiceGiven) => unreachable!(),
+    }
+}
+
+/// The script, unless it does not read or the program cannot play one of its lines.
+fn built_script(alloc: Global, script: &[u8]) -> Result<PlayScript, Status>
+    ensures { (result ≡ Err NoMemory) ⊎ (result ≡ lines_of_script script.now) }
+{
+    let script = read_play(alloc, script)?;
+    built(script)
+}
+
+/// The script, unless the program cannot play one of its lines.
+fn built(script: PlayScript) -> Result<PlayScript, Status>
+    ensures { result ≡ built_lines script (first_unbuilt script) }
+{
+    match first_unbuilt(script.as_slice()) {
+        Some(line) => Err(Status::NotBuilt { line }),
+        None => Ok(script),
+    }
+}
+
+/// The number of the first line that the program cannot play.
+fn first_unbuilt(lines: &[PlayLine]) -> Option<u64>
+    ensures { result ≡ first_unbuilt lines.now }
+{
+    lines
+        .iter()
+        .find(|line| !is_built(line.act))
+        .map(|line| line.line)
+}
+
+/// Whether the program can play such a line.
+fn is_built(act: PlayAct) -> bool
+    ensures { result ≡ is_built act }
+{
+    matches!(
+        act,
+        PlayAct::Assign(_)
+            | PlayAct::Commit(_)
+            | PlayAct::Poll { .. }
+            | PlayAct::Take(_)
+            | PlayAct::End(_)
+            | PlayAct::Revoke(_)
+            | PlayAct::Lose(_)
+            | PlayAct::Crash
+    )
+}

@@ -1,0 +1,214 @@
+-- The link and the journal take the commit in, or the journal alone.
+use Rattle.std.proofs.Common.{◌≡◌, ◌≤◌, ◌∙◌, None, true, Result, Err, ap, refl, subst, arith, inr}
+use Rattle.std.proofs.lemmas.Result.{err_from_is_err_and}
+use Rattle.pc_world.specs.World.{HasRisen}
+use Rattle.pc_model.specs.Given.{has_log}
+use Rattle.pc_model.specs.Known.{commit_of}
+use Rattle.pc_offset_client.specs.declared.fault.ClientFault.{ClientFault}
+use Rattle.pc_offset_client.specs.Client.{kept_for}
+use Rattle.pc_engine.specs.declared.engine.Committed.{Committed}
+use Rattle.pc_engine.specs.declared.fault.EngineFault.{EngineFault}
+use Rattle.pc_engine.specs.declared.fault.EngineFault.TheVariants.{Client}
+use Rattle.pc_engine.specs.Effect.{Does, IsStored, StoresOnly, commit_refusal, commit_step}
+use Rattle.pc_engine.proofs.EngineCommit.{commit-gives, commit-small, committed-given, committed-keeps, failed-does, failed-given, failed-keeps}
+use Rattle.pc_engine.proofs.EngineLemmas.{commit-unmade, kept_for-accepts, may_commit, may_keep-failed, same-failure, small-map, stores_only-accepts, stores_only-failed}
+use Rattle.pc_engine.proofs.EngineStep.{given_to}
+use Rattle.pc_engine.proofs.engine.Engine.store.Goals as goal
+
+pub returns-in_err-sized-clause-effect : goal.returns-in_err-sized-clause-effect
+returns-in_err-sized-clause-effect g c =
+    let got = err_from_is_err_and c.from_residual.result c.from_residual.ensures.1 in
+    commit-unmade c.from_residual.result c.args.self.now.given
+    c.args.self.now.journal.events c.args.self.now.journal.events c.args.part
+    (g.L.Link.is_told c.args.self.now.link) (g.L.Link.store c.args.self.now.link)
+    (g.L.Link.store c.args.self.now.link)
+    (g.L.Link.faults c.args.self.now.link) _
+    (got.1 ∙ ap (λ (x : EngineFault). Err x) got.2) refl refl
+
+pub commit-requires-clause-map : goal.commit-requires-clause-map
+commit-requires-clause-map g c = small-map c.self.inside.state.setup.now _
+    (rw (← c.self.view_is) at c.in_ok-sized.ensures.map)
+
+pub commit-requires-clause-part : goal.commit-requires-clause-part
+commit-requires-clause-part g c =
+    let inner : commit_refusal (given_to c.self.inside.state c.self.inside.journal.events
+    (g.L.Link.is_told c.self.inside.client.link) (kept_for (g.L.Link.store c.self.inside.client.link)))
+    c.self.inside.journal.events c.args.part ≡ None = rw (← c.self.view_is) at c.requires.may in
+    let small = commit-small c.self.inside.state c.self.inside.journal.events
+    (g.L.Link.is_told c.self.inside.client.link) (kept_for (g.L.Link.store c.self.inside.client.link))
+    c.self.inside.journal.room c.self.invariant c.args.part inner in omega (arith, small)
+
+pub committed-requires : goal.committed-requires
+committed-requires g c =
+    let inner : commit_refusal (given_to c.self.inside.state c.self.inside.journal.events
+    (g.L.Link.is_told c.self.inside.client.link) (kept_for (g.L.Link.store c.self.inside.client.link)))
+    c.self.inside.journal.events c.args.part ≡ None = rw (← c.self.view_is) at c.requires.may in (
+      (given_to c.self.inside.state c.self.inside.journal.events
+          (g.L.Link.is_told c.self.inside.client.link) (kept_for (g.L.Link.store c.self.inside.client.link))),
+      c.self.inside.journal.events,
+      c.self.invariant.knows,
+      (may_commit (given_to c.self.inside.state c.self.inside.journal.events
+          (g.L.Link.is_told c.self.inside.client.link) (kept_for (g.L.Link.store c.self.inside.client.link)))
+          c.self.inside.journal.events c.args.part inner).held,
+    )
+
+pub committed-requires-in-Err : goal.committed-requires-in-Err
+committed-requires-in-Err g c =
+    let inner : commit_refusal (given_to c.self.inside.state c.self.inside.journal.events
+    (g.L.Link.is_told c.self.inside.client.link) (kept_for (g.L.Link.store c.self.inside.client.link)))
+    c.self.inside.journal.events c.args.part ≡ None = rw (← c.self.view_is) at c.requires.may in (
+      (given_to c.self.inside.state c.self.inside.journal.events
+          (g.L.Link.is_told c.self.inside.client.link) (kept_for (g.L.Link.store c.self.inside.client.link))),
+      c.self.inside.journal.events,
+      c.self.invariant.knows,
+      (may_commit (given_to c.self.inside.state c.self.inside.journal.events
+          (g.L.Link.is_told c.self.inside.client.link) (kept_for (g.L.Link.store c.self.inside.client.link)))
+          c.self.inside.journal.events c.args.part inner).held,
+    )
+
+pub invariant_of-self : goal.invariant_of-self
+invariant_of-self g c =
+    let inner : commit_refusal (given_to c.self.inside.state c.self.inside.journal.events
+    (g.L.Link.is_told c.self.inside.client.link) (kept_for (g.L.Link.store c.self.inside.client.link)))
+    c.self.inside.journal.events c.args.part ≡ None = rw (← c.self.view_is) at c.requires.may in
+    let commit_is : c.in_ok-sized.sized ≡ commit_of (given_to c.self.inside.state c.self.inside.journal.events
+    (g.L.Link.is_told c.self.inside.client.link) (kept_for (g.L.Link.store c.self.inside.client.link)))
+    c.self.inside.journal.events c.args.part = rw (← c.self.view_is) at c.in_ok-sized.ensures.commit in
+    committed-keeps c.self.inside.state c.self.inside.journal.events
+    (g.L.Link.is_told c.self.inside.client.link) (kept_for (g.L.Link.store c.self.inside.client.link))
+    c.self.inside.journal.room c.self.invariant c.args.part inner c.in_ok-sized.sized
+    commit_is
+    (kept_for (g.L.Link.store c.commit.new.self.link)) c.committed.new.self
+    (g.L.Link.is_told c.commit.new.self.link) c.commit.ensures.told c.push.new.self.events
+    c.push.new.self.room
+    (let enough = rw (← c.self.view_is) at c.requires.room in
+    let less = c.push.ensures.room in omega (arith, enough, less))
+    (λ is. kept_for-accepts _ _ _ _ (c.in-Ok.ensures.gives is))
+    (c.committed.ensures.stored (given_to c.self.inside.state c.self.inside.journal.events
+    (g.L.Link.is_told c.self.inside.client.link) (kept_for (g.L.Link.store c.self.inside.client.link)))
+    c.self.inside.journal.events c.in_ok-sized.sized.commit.position c.in_ok-sized.sized.commit.map c.self.invariant.knows)
+    c.push.ensures.events
+
+pub invariant_of-self-in-Err : goal.invariant_of-self-in-Err
+invariant_of-self-in-Err g c =
+    let inner : commit_refusal (given_to c.self.inside.state c.self.inside.journal.events
+    (g.L.Link.is_told c.self.inside.client.link) (kept_for (g.L.Link.store c.self.inside.client.link)))
+    c.self.inside.journal.events c.args.part ≡ None = rw (← c.self.view_is) at c.requires.may in
+    let commit_is : c.in_ok-sized.sized ≡ commit_of (given_to c.self.inside.state c.self.inside.journal.events
+    (g.L.Link.is_told c.self.inside.client.link) (kept_for (g.L.Link.store c.self.inside.client.link)))
+    c.self.inside.journal.events c.args.part = rw (← c.self.view_is) at c.in_ok-sized.ensures.commit in
+    failed-keeps c.self.inside.state c.self.inside.journal.events
+    (g.L.Link.is_told c.self.inside.client.link) (kept_for (g.L.Link.store c.self.inside.client.link))
+    c.self.inside.journal.room c.self.invariant c.args.part inner c.in_ok-sized.sized
+    commit_is
+    (kept_for (g.L.Link.store c.commit.new.self.link)) c.committed-in-Err.new.self
+    (g.L.Link.is_told c.commit.new.self.link) c.commit.ensures.told c.push-in-Err.new.self.events
+    c.push-in-Err.new.self.room
+    (let enough = rw (← c.self.view_is) at c.requires.room in
+    let less = c.push-in-Err.ensures.room in omega (arith, enough, less))
+    (λ is. may_keep-failed _ _ _ _ c.in-Err.fault (c.in-Err.ensures.gives is))
+    (c.committed-in-Err.ensures.failed (given_to c.self.inside.state c.self.inside.journal.events
+    (g.L.Link.is_told c.self.inside.client.link) (kept_for (g.L.Link.store c.self.inside.client.link)))
+    c.self.inside.journal.events c.in_ok-sized.sized.commit.position c.in_ok-sized.sized.commit.map c.self.invariant.knows)
+    c.push-in-Err.ensures.events
+
+pub returns-in-Ok-clause-given : goal.returns-in-Ok-clause-given
+returns-in-Ok-clause-given g c =
+    let inner : commit_refusal (given_to c.self.inside.state c.self.inside.journal.events
+    (g.L.Link.is_told c.self.inside.client.link) (kept_for (g.L.Link.store c.self.inside.client.link)))
+    c.self.inside.journal.events c.args.part ≡ None = rw (← c.self.view_is) at c.requires.may in
+    let commit_is : c.in_ok-sized.sized ≡ commit_of (given_to c.self.inside.state c.self.inside.journal.events
+    (g.L.Link.is_told c.self.inside.client.link) (kept_for (g.L.Link.store c.self.inside.client.link)))
+    c.self.inside.journal.events c.args.part = rw (← c.self.view_is) at c.in_ok-sized.ensures.commit in
+    committed-given c.self.inside.state c.self.inside.journal.events
+    (g.L.Link.is_told c.self.inside.client.link) (kept_for (g.L.Link.store c.self.inside.client.link))
+    c.self.inside.journal.room c.self.invariant c.args.part inner c.in_ok-sized.sized
+    commit_is
+    (kept_for (g.L.Link.store c.commit.new.self.link)) c.committed.new.self
+    (g.L.Link.is_told c.commit.new.self.link) c.commit.ensures.told c.push.new.self.events
+    c.push.new.self.room
+    (let enough = rw (← c.self.view_is) at c.requires.room in
+    let less = c.push.ensures.room in omega (arith, enough, less))
+    (λ is. kept_for-accepts _ _ _ _ (c.in-Ok.ensures.gives is))
+    (c.committed.ensures.stored (given_to c.self.inside.state c.self.inside.journal.events
+    (g.L.Link.is_told c.self.inside.client.link) (kept_for (g.L.Link.store c.self.inside.client.link)))
+    c.self.inside.journal.events c.in_ok-sized.sized.commit.position c.in_ok-sized.sized.commit.map c.self.invariant.knows)
+    c.push.ensures.events
+    ∙ ap (λ v. v.given) c.self.view_is
+
+pub returns-in-Ok-clause-others : goal.returns-in-Ok-clause-others
+returns-in-Ok-clause-others g c =
+    subst (λ v. g.L.Link.is_told v.link ≡ true → StoresOnly (has_log c.args.self.now.given)
+    (g.L.Link.store v.link) (g.L.Link.store c.commit.new.self.link)) c.self.view_is
+    (λ is. stores_only-accepts _ _ _ c.args.part _
+    (may_commit c.args.self.now.given c.args.self.now.journal.events c.args.part c.requires.may).known
+    (c.in-Ok.ensures.gives is))
+
+pub returns-in-Err : goal.returns-in-Err
+returns-in-Err g c =
+    let inner : commit_refusal (given_to c.self.inside.state c.self.inside.journal.events
+    (g.L.Link.is_told c.self.inside.client.link) (kept_for (g.L.Link.store c.self.inside.client.link)))
+    c.self.inside.journal.events c.args.part ≡ None = rw (← c.self.view_is) at c.requires.may in
+    let commit_is : c.in_ok-sized.sized ≡ commit_of (given_to c.self.inside.state c.self.inside.journal.events
+    (g.L.Link.is_told c.self.inside.client.link) (kept_for (g.L.Link.store c.self.inside.client.link)))
+    c.self.inside.journal.events c.args.part = rw (← c.self.view_is) at c.in_ok-sized.ensures.commit in
+    record {
+      effect = subst (λ v. (x : Result (Unit {0}) ClientFault) × IsStored (g.L.Link.is_told v.link)
+          (g.L.Link.store v.link) (g.L.Link.store c.commit.new.self.link) (g.L.Link.faults v.link)
+          (g.L.Link.faults c.commit.new.self.link) c.args.part
+          (commit_of v.given v.journal.events c.args.part).commit x
+          × Does {A = Committed} (Err (Client c.in-Err.fault))
+          (commit_step v.given v.journal.events c.args.part x) v.journal.events
+          c.push-in-Err.new.self.events) c.self.view_is (
+            Err c.in-Err.fault,
+            record {
+              cause = c.in-Err.ensures.cause;
+              gives = λ is. commit-gives c.self.inside.state c.self.inside.journal.events
+                  (g.L.Link.is_told c.self.inside.client.link) (kept_for (g.L.Link.store c.self.inside.client.link))
+                  c.self.inside.journal.room c.self.invariant c.args.part inner c.in_ok-sized.sized
+                  commit_is _ _
+                  (Err c.in-Err.fault) (c.in-Err.ensures.gives is);
+            },
+            failed-does c.self.inside.state c.self.inside.journal.events
+                (g.L.Link.is_told c.self.inside.client.link) (kept_for (g.L.Link.store c.self.inside.client.link))
+                c.self.inside.journal.room c.self.invariant c.args.part inner c.in_ok-sized.sized
+                commit_is
+                (kept_for (g.L.Link.store c.commit.new.self.link)) c.committed-in-Err.new.self
+                (g.L.Link.is_told c.commit.new.self.link) c.commit.ensures.told c.push-in-Err.new.self.events
+                c.push-in-Err.new.self.room
+                (let enough = rw (← c.self.view_is) at c.requires.room in
+                let less = c.push-in-Err.ensures.room in omega (arith, enough, less))
+                (λ is. may_keep-failed _ _ _ _ c.in-Err.fault (c.in-Err.ensures.gives is))
+                (c.committed-in-Err.ensures.failed (given_to c.self.inside.state c.self.inside.journal.events
+                (g.L.Link.is_told c.self.inside.client.link) (kept_for (g.L.Link.store c.self.inside.client.link)))
+                c.self.inside.journal.events c.in_ok-sized.sized.commit.position c.in_ok-sized.sized.commit.map c.self.invariant.knows)
+                c.push-in-Err.ensures.events c.in-Err.fault,
+          );
+      cause = λ is. subst (λ v. HasRisen (g.L.Link.faults v.link) (g.L.Link.faults c.commit.new.self.link))
+          c.self.view_is (c.in-Err.ensures.cause (same-failure _ _ is));
+      others = subst (λ v. g.L.Link.is_told v.link ≡ true → StoresOnly (has_log v.given)
+          (g.L.Link.store v.link) (g.L.Link.store c.commit.new.self.link)) c.self.view_is
+          (λ is. stores_only-failed _ _ _ c.args.part _ c.in-Err.fault
+          (may_commit (given_to c.self.inside.state c.self.inside.journal.events
+          (g.L.Link.is_told c.self.inside.client.link) (kept_for (g.L.Link.store c.self.inside.client.link)))
+          c.self.inside.journal.events c.args.part inner).known
+          (c.in-Err.ensures.gives is));
+      given = failed-given c.self.inside.state c.self.inside.journal.events
+          (g.L.Link.is_told c.self.inside.client.link) (kept_for (g.L.Link.store c.self.inside.client.link))
+          c.self.inside.journal.room c.self.invariant c.args.part inner c.in_ok-sized.sized
+          commit_is
+          (kept_for (g.L.Link.store c.commit.new.self.link)) c.committed-in-Err.new.self
+          (g.L.Link.is_told c.commit.new.self.link) c.commit.ensures.told c.push-in-Err.new.self.events
+          c.push-in-Err.new.self.room
+          (let enough = rw (← c.self.view_is) at c.requires.room in
+          let less = c.push-in-Err.ensures.room in omega (arith, enough, less))
+          (λ is. may_keep-failed _ _ _ _ c.in-Err.fault (c.in-Err.ensures.gives is))
+          (c.committed-in-Err.ensures.failed (given_to c.self.inside.state c.self.inside.journal.events
+          (g.L.Link.is_told c.self.inside.client.link) (kept_for (g.L.Link.store c.self.inside.client.link)))
+          c.self.inside.journal.events c.in_ok-sized.sized.commit.position c.in_ok-sized.sized.commit.map c.self.invariant.knows)
+          c.push-in-Err.ensures.events
+          ∙ ap (λ v. v.given) c.self.view_is;
+      told = c.commit.ensures.told ∙ ap (λ v. g.L.Link.is_told v.link) c.self.view_is;
+      count = subst (λ v. g.L.Link.faults v.link ≤ g.L.Link.faults c.commit.new.self.link) c.self.view_is c.commit.ensures.count;
+      room = inr (c.push-in-Err.ensures.room ∙ ap (λ v. v.journal.room) c.self.view_is);
+    }

@@ -1,0 +1,24 @@
+-- Each record that is given is put.
+use Rattle.std.proofs.Common.{refl, ap, ◌∙◌, List}
+use Rattle.std.proofs.lemmas.Iterator.{YieldsList-from_take}
+use Rattle.std.proofs.lemmas.Iterator.Consumers.{YieldsList-at, YieldsList-end, YieldsList-from_first}
+use Rattle.pc_batch.specs.Record.{plain}
+use Rattle.pc_model.specs.Record.{Record}
+use Rattle.pc_engine.specs.Polls.{plain_next}
+use Rattle.pc_engine.proofs.QueryLemmas.{map-push, plain-taken}
+use Rattle.pc_engine.proofs.polls.first_of.Goals as goal
+
+pub loop-record-init : goal.loop-record-init
+loop-record-init c = ap plain_next c.new-records.ensures.items
+
+pub loop-record-preserved : goal.loop-record-preserved
+loop-record-preserved c = ap plain_next c.in_ok-push.ensures.items
+    ∙ map-push _ _ _ _ _ _ c.loop-record.invariant refl
+
+pub returns : goal.returns
+returns c =
+    let source = c.take-record-items.ensures.source in
+    let list = YieldsList-from_take c.args.max (YieldsList-from_first plain (λ (left : List Record). left) c.args.next source) c.take-record-items.ensures.count in
+    let all = YieldsList-at c.into_iter-record-iterator.ensures.into_iter_gives list in
+    plain-taken c.loop-record.records.items c.loop-record.yielded _ c.loop-record.invariant
+    (YieldsList-end all c.loop-record.yielded _ c.loop-record.yielded_by _ _ c.in-None.is c.next.ensures.steps).0

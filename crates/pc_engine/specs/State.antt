@@ -1,0 +1,78 @@
+-- What the engine keeps beside its journal: the parts, the shards, and the jobs that are out.
+use Rattle.std.specs.Prelude.{ℕ, ◌+◌, ◌≡◌, ◌≤◌, ◌<◌, Bool, if◌then◌else◌, List, [], ◌∷◌, length, Option, Some, None, is_some, ⊤, slice_index_or}
+use Rattle.std.specs.List.{list_any}
+use Rattle.pc_model.specs.declared.choices.Order.TheVariants.{None as NoOrder}
+use Rattle.pc_model.specs.declared.event.Event.{Event}
+use Rattle.pc_model.specs.Given.{Given, records_of}
+use Rattle.pc_model.specs.Jobs.{dispatch_count, open_jobs}
+use Rattle.pc_model.specs.Epochs.{epoch_of, is_held}
+use Rattle.pc_model.specs.Known.{begin_of, is_job_at, marks_of, polled_count, unpolled_records}
+use Rattle.pc_model.specs.Pressure.{last_size}
+use Rattle.pc_model.specs.Next.{last_part}
+use Rattle.pc_model.specs.Lawful.{IsLegal}
+use Rattle.pc_partition.specs.Window.{StandsFor}
+use Rattle.pc_shards.specs.Entries.{Entry, of_part}
+use Rattle.pc_shards.specs.OpenEntries.{open_entries}
+use Rattle.pc_cursor.specs.Cursor.{not_below}
+use Rattle.pc_engine.specs.declared.part.HeldPart.{HeldPart}
+use Rattle.pc_engine.specs.declared.part.PartState.{PartState}
+use Rattle.pc_engine.specs.declared.state.State.{State}
+use Rattle.pc_engine.specs.OpenJobs.{AreOpen}
+
+-- each record is an ordering key of its own, and none fails
+pub record IsPlain (given : Given) : Type 0 where
+  pub order : given.setup.order ≡ NoOrder
+  pub fails : given.setup.rules.fails ≡ []
+
+-- whether a job of the part's present epoch is out at the offset
+unfoldable pub is_out : List Event → ℕ → ℕ → Bool
+is_out h p o = list_any (λ j. is_job_at (Some j) p (epoch_of h p) o) (open_jobs h)
+
+-- the entries of a part: while it is held, its polled, incomplete records
+unfoldable pub entries_of : Given → List Event → ℕ → List Entry
+entries_of given h p = if is_held h p then open_entries given h p (λ r. is_out h p r.offset) else []
+
+-- what is kept of a held part: its completion state, from which offset on its records were not
+-- polled, and the size of its last commit
+pub record KnowsHeld (given : Given) (h : List Event) (p : ℕ) (held : HeldPart) : Type 0 where
+  pub stands : StandsFor held.window.window (begin_of h p) (polled_count h p) (marks_of given h p)
+  pub unpolled : unpolled_records given h p ≡ not_below held.next (records_of given p)
+  pub size : held.size ≡ last_size h p
+
+abbrev pub KnowsPart : Given → List Event → ℕ → Option HeldPart → Type 0
+KnowsPart given h p None = ⊤
+KnowsPart given h p (Some held) = KnowsHeld given h p held
+
+pub record PartKeeps (given : Given) (h : List Event) (p : ℕ) (part : PartState) : Type 0 where
+  pub epoch : part.epoch ≡ epoch_of h p
+  pub held : is_some part.held ≡ is_held h p
+  pub knows : KnowsPart given h p part.held
+
+-- the state is that of a legal history
+pub record Knows (given : Given) (h : List Event) (s : State) : Type 0 where
+  pub setup : given.setup ≡ s.setup.now
+  pub logs : given.logs ≡ s.logs.now
+  pub plain : IsPlain given
+  pub legal : IsLegal given h
+  pub limit : length h + length (open_jobs h) ≤ 4000000
+  pub count : length s.parts.items ≡ length given.logs
+  pub few : length given.logs ≤ 1024
+  pub few_records : (p : ℕ) → length (records_of given p) ≤ 1000000
+  pub each : (p : ℕ) (d : PartState) → p < length given.logs
+      → PartKeeps given h p (slice_index_or s.parts.items p d)
+  pub order : s.shards.order ≡ given.setup.order
+  pub entries : (p : ℕ) → of_part s.shards p ≡ entries_of given h p
+  pub jobs : AreOpen h s.jobs
+  pub dispatched : s.dispatched ≡ dispatch_count h
+  pub last : s.last ≡ last_part h
+
+-- the event may come, and there is a place for it and for the results of the jobs that are out
+pub record MayCome (given : Given) (event : Event) (h : List Event) : Type 0 where
+  pub legal : IsLegal given (event ∷ h)
+  pub limit : length (event ∷ h) + length (open_jobs (event ∷ h)) ≤ 4000000
+
+-- each part's epoch is over, and none is held
+pub record AreReleased (old new : List PartState) : Type 0 where
+  pub count : length new ≡ length old
+  pub each : (p : ℕ) (d : PartState) → p < length old
+      → slice_index_or new p d ≡ record { epoch = (slice_index_or old p d).epoch + 1; held = None }

@@ -1,0 +1,183 @@
+//! What ends a part's epoch: that it is given back or lost, or a crash.
+
+ghost use Rattle.std.specs.Prelude.{◌≡◌, ◌<◌, ℕ, List, ◌∷◌, true, length, slice_index_or};
+ghost use Rattle.pc_model.specs.declared.event.Event.{Event};
+ghost use Rattle.pc_model.specs.declared.event.Event.TheVariants.{Crash, Lost, Revoke};
+ghost use Rattle.pc_model.specs.Given.{Given};
+ghost use Rattle.pc_model.specs.Epochs.{epoch_of, is_held};
+ghost use Rattle.pc_engine.specs.declared.part.PartState.{PartState};
+ghost use Rattle.pc_engine.specs.Effect.{failure_of};
+ghost use Rattle.pc_engine.specs.State.{AreReleased, Knows, MayCome};
+
+use crate::engine::{Committed, Engine};
+use crate::fault::EngineFault;
+use crate::part::PartState;
+use crate::state::State;
+use pc_model::Event;
+use pc_offset_client::ClientFault;
+use pc_world::Link;
+
+impl<'a> State<'a> {
+    /// A held part was given back or lost: its epoch is over, and nothing stays that was learnt of
+    /// it but the jobs that are out. Answers the epoch that ended. Takes no memory.
+    pub fn release(&mut self, part: u32) -> u64
+        requires { (given : Given) × (h : List Event) × Knows given h self.old
+            × (is_held h part ≡ true) }
+        ensures epoch { (given : Given) (h : List Event) → Knows given h self.old
+            → is_held h part ≡ true → result ≡ epoch_of h part }
+        ensures lost { (given : Given) (h : List Event) → Knows given h self.old
+            → is_held h part ≡ true → MayCome given (Lost part (epoch_of h part)) h
+            → Knows given (Lost part (epoch_of h part) ∷ h) self.new }
+        ensures revoked { (given : Given) (h : List Event) → Knows given h self.old
+            → is_held h part ≡ true → MayCome given (Revoke part (epoch_of h part)) h
+            → Knows given (Revoke part (epoch_of h part) ∷ h) self.new }
+    {
+        let state = &mut self.parts[part as usize];
+        let epoch = state.epoch;
+        state.epoch = epoch + 1;
+        state.held = None;
+        self.shards.drop_part(part);
+        epoch
+    }
+
+    /// A crash: every epoch is over, no part is held, and nothing stays that was learnt but the
+    /// jobs that are out. Takes no memory.
+    pub fn crash(&mut self)
+        requires { (given : Given) × (h : List Event) × Knows given h self.old }
+        ensures { (given : Given) (h : List Event) → Knows given h self.old
+            → MayCome given Crash h → Knows given (Crash ∷ h) self.new }
+    {
+        release_all(&mut self.parts);
+        self.shards.clear();
+    }
+}
+
+impl<'a, L: Link> Engine<'a, L> {
+    ghost use Rattle.std.specs.Prelude.{◌≡◌, ◌≤◌, Ok, Err, Some, Result};
+    ghost use Rattle.pc_model.specs.Given.{has_log};
+    ghost use Rattle.pc_model.specs.Known.{commit_of};
+    ghost use Rattle.pc_offset_client.specs.declared.fault.ClientFault.{ClientFault};
+    ghost use Rattle.pc_offset_client.specs.declared.fault.ClientFault.TheVariants.{LinkFailed};
+    ghost use Rattle.pc_world.specs.World.{HasRisen};
+    ghost use Rattle.pc_engine.specs.declared.fault.EngineFault.{EngineFault};
+    ghost use Rattle.pc_engine.specs.Effect.{Does, IsStored, StoresOnly, crash_step, held_refusal, lose_step, refused_by, revoke_refusal, revoke_step};
+
+    /// How many parts there are, with a log or without one.
+    pub fn parts(&self) -> u32
+        ensures { result ≡ length self.now.given.logs }
+    {
+        self.state.logs.parts()
+    }
+
+    /// Whether the part is held.
+    pub fn held(&self, part: u32) -> bool
+        ensures { result ≡ is_held self.now.journal.events part }
+    {
+        self.state.held(part).is_some()
+    }
+
+    /// The part was lost: adds Lost with its epoch, which is over. Nothing stays that was learnt of
+    /// it but the jobs that are out, whose results will come too late. Takes no memory but for a
+    /// place in the journal.
+    ///
+    /// Refuses with `Closed`, `UnknownPart`, `NotHeld`, `JournalFull` or `NoMemory`, the first that
+    /// applies.
+    pub fn lose(&mut self, part: u32) -> Result<(), EngineFault>
+        ensures effect { Does result
+            (lose_step self.old.given self.old.journal.events part)
+            self.old.journal.events self.new.journal.events }
+        ensures given { self.new.given ≡ self.old.given }
+        ensures link { self.new.link ≡ self.old.link }
+    {
+        self.may_release(part, 1)?;
+        self.journal.reserve(self.state.outstanding() + 1)?;
+        let epoch = self.state.release(part);
+        self.journal.push(Event::Lost { part, epoch });
+        Ok(())
+    }
+
+    /// A crash: adds Crash. No part is held afterwards, and nothing stays that was learnt but the
+    /// journal, the jobs that are out, and the link. Takes no memory but for a place in the
+    /// journal.
+    ///
+    /// Refuses with `Closed`, `JournalFull` or `NoMemory`, the first that applies.
+    pub fn crash(&mut self) -> Result<(), EngineFault>
+        ensures effect { Does result (crash_step self.old.journal.events)
+            self.old.journal.events self.new.journal.events }
+        ensures given { self.new.given ≡ self.old.given }
+        ensures link { self.new.link ≡ self.old.link }
+    {
+        self.has_room(1)?;
+        self.journal.reserve(self.state.outstanding() + 1)?;
+        self.state.crash();
+        self.journal.push(Event::Crash);
+        Ok(())
+    }
+
+    /// Gives the part back: has its commit stored, as `commit` does, and adds Commit or
+    /// CommitFailed, and then Revoke with the part's epoch, which is over. Answers why the commit
+    /// failed, if it did.
+    ///
+    /// Refuses with `Closed`, `UnknownPart`, `NotHeld`, `JournalFull` or `NoMemory`, the first that
+    /// applies.
+    pub fn revoke(&mut self, part: u32) -> Result<Option<ClientFault>, EngineFault>
+        ensures effect { (outcome : Result (Unit {0}) ClientFault) × IsStored
+            (L.is_told self.old.link) (L.store self.old.link) (L.store self.new.link)
+            (L.faults self.old.link) (L.faults self.new.link) part
+            (commit_of self.old.given self.old.journal.events part).commit outcome × Does result
+            (revoke_step self.old.given self.old.journal.events part outcome)
+            self.old.journal.events self.new.journal.events }
+        ensures refused { (fault : EngineFault) →
+            revoke_refusal self.old.given self.old.journal.events part ≡ Some fault
+            → (result ≡ Err fault) × (self.new.journal.events ≡ self.old.journal.events) }
+        ensures cause { result ≡ Ok (Some LinkFailed) → HasRisen (L.faults self.old.link)
+            (L.faults self.new.link) }
+        ensures others { L.is_told self.old.link ≡ true → StoresOnly (has_log self.old.given)
+            (L.store self.old.link) (L.store self.new.link) }
+        ensures given { self.new.given ≡ self.old.given }
+        ensures told { L.is_told self.new.link ≡ L.is_told self.old.link }
+        ensures count { L.faults self.old.link ≤ L.faults self.new.link }
+    {
+        self.may_release(part, 2)?;
+        self.journal.reserve(self.state.outstanding() + 2)?;
+        let failed = failure(self.store(part))?;
+        let epoch = self.state.release(part);
+        self.journal.push(Event::Revoke { part, epoch });
+        Ok(failed)
+    }
+
+    // Why a call is refused that gives the part back and adds so many events, at most 2.
+    fn may_release(&self, part: u32, events: u64) -> Result<(), EngineFault>
+        requires { events ≤ 2 }
+        ensures { result ≡ refused_by
+            (held_refusal self.now.given self.now.journal.events part events) }
+    {
+        if self.part(part)?.held.is_none() {
+            return Err(EngineFault::NotHeld);
+        }
+        self.has_room(events)
+    }
+}
+
+/// Why a commit failed, if it did, where it was made.
+fn failure(stored: Result<Committed, EngineFault>) -> Result<Option<ClientFault>, EngineFault>
+    ensures { result ≡ failure_of stored }
+{
+    match stored {
+        Ok(_) => Ok(None),
+        Err(EngineFault::Client(fault)) => Ok(Some(fault)),
+        Err(fault) => Err(fault),
+    }
+}
+
+/// Each part's epoch is over, and none is held.
+fn release_all(parts: &mut [PartState])
+    requires { (p : ℕ) (d : PartState) → p < length parts.old
+        → (slice_index_or parts.old p d).epoch < 4000001 }
+    ensures { AreReleased parts.old parts.new }
+{
+    for part in parts.iter_mut() {
+        part.epoch += 1;
+        part.held = None;
+    }
+}
