@@ -1,6 +1,6 @@
 //! The journal: the list of all events so far. Contracts see its events, the newest first, and the
 //! room for more.
-ghost use Rattle.std.specs.Prelude.{◌≡◌, ℕ, ◌+◌, ◌<◌, ◌≤◌, ◌-◌, List, [], ◌∷◌, IfOk, OnErr, OnOk, length, reverse, option_copied, slice_get};
+ghost use Rattle.std.specs.Prelude.{◌≡◌, ℕ, ◌+◌, ◌<◌, ◌≤◌, ◌-◌, List, [], ◌∷◌, IfOk, IsOk, OnErr, OnOk, length, reverse, option_copied, slice_get};
 ghost use Rattle.pc_model.specs.History.{History};
 
 use crate::event::Event;
@@ -34,9 +34,10 @@ impl Journal {
         }
     }
 
-    /// Makes room for `n` more events. The only error is want of memory, after which all is as
-    /// before.
+    /// Makes room for `n` more events. Fails only where there is no such room yet and memory runs
+    /// out, and then all is as before.
     pub fn reserve(&mut self, n: u64) -> Result<(), AllocError>
+        ensures enough { n ≤ self.old.room → IsOk result }
         ensures room { IfOk result (λ _. n ≤ self.new.room) }
         ensures events { self.new.events ≡ self.old.events }
         ensures err { OnErr result (self.new ≡ self.old) }
