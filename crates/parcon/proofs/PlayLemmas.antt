@@ -1,7 +1,6 @@
 -- What a line's call does to a play, and what lines do one after the other.
-use Rattle.std.proofs.Common.{◌≡◌, ◌≤◌, ◌<◌, inl, ℕ, ◌+◌, Bool, true, false, List, [], ◌∷◌, ◌++◌, length, take, get_or, Option, Some, None, Result, Ok, Err, refl, ap, sym, subst, ◌∙◌, arith, zero, suc, add-one, length-append}
-use Rattle.std.specs.Prelude.{IfOk, IsTrue, is_none}
-use Rattle.std.specs.List.{AllByRecursion}
+use Rattle.std.proofs.Common.{◌≡◌, ◌≤◌, ◌<◌, inl, inr, ℕ, ◌+◌, Bool, true, false, List, [], ◌∷◌, ◌++◌, length, take, get_or, Option, None, refl, ap, sym, subst, ◌∙◌, arith, zero, suc, add-one}
+use Rattle.std.specs.Prelude.{IsTrue, OnErr, Result, Ok, Err, is_none}
 use Rattle.std.proofs.Math.Bool.{Bool-set}
 use Rattle.std.proofs.lemmas.List.{append-nil}
 use Rattle.std.proofs.Math.Seq.{take-suc}
@@ -27,12 +26,12 @@ use Rattle.parcon.specs.declared.remark.Remark.{Remark}
 use Rattle.parcon.specs.declared.remark.Notice.{Notice}
 use Rattle.parcon.specs.declared.hand.Hand.{Hand}
 use Rattle.parcon.specs.Hand.{AreIn, HasInHand}
-use Rattle.parcon.specs.Play.{Asked, Play, HasCause, LeadTo, LeadsTo, Makes, PlaysTo, after_line, played, remarks_on, start, step_of}
+use Rattle.parcon.specs.Play.{Asked, Asks, Breaks, Comes, Entry, LeadTo, LeadsTo, Makes, Moment, Play, PlaysTo, StopsIn, Trace, after_line, remarks_on, start, step_of}
+use Rattle.parcon.proofs.CallLemmas.{aborted-same}
 use Rattle.parcon.proofs.HandLemmas.{expects-start}
 use Rattle.pc_script.specs.PlayScript.{ArePlayable, IsPlayable}
 use Rattle.pc_task.specs.Jobs.{PlainJob}
 use Rattle.parcon.specs.Promise.{IsKept, default_setup, default_in_range}
-use Rattle.parcon.proofs.ReadingLemmas.{risen-later, risen-earlier}
 
 false-not-true : false ≡ true → ⊥
 false-not-true is = true-not-false true refl (sym is)
@@ -56,64 +55,53 @@ stores_only-next may may' a b c same first then_more = stores_only-trans may a b
 
 -- ---- one line
 
--- a line without a remark
-pub line-done : (given : Given) (line : PlayLine) (h h' : List Event) (jobs : List PlainJob)
-    (hand : Hand) (remarks : List Remark) (f f' : ℕ)
-    → Makes given h jobs line.act f f' h' hand None
-    → LeadsTo given (record { history = h; hand = jobs; remarks = remarks }) line f f' h' hand
-    remarks
-line-done given line h h' jobs hand remarks f f' made = record {
-  asked = made.asked;
-  cause = made.cause;
-  jobs = (step_of given h jobs line.act made.asked).hand;
-  end = ap (λ (k : List Event). record {
-    history = k;
-    hand = (step_of given h jobs line.act made.asked).hand;
-    remarks = remarks
-        ++ remarks_on line.line (step_of given h jobs line.act made.asked).notice;
-  }) (sym made.events)
-      ∙ ap (λ (n : Option Notice). record {
-        history = h';
-        hand = (step_of given h jobs line.act made.asked).hand;
-        remarks = remarks ++ remarks_on line.line n;
-      }) (sym made.notice_is)
-      ∙ ap (λ (l : List Remark). record {
-        history = h';
-        hand = (step_of given h jobs line.act made.asked).hand;
-        remarks = l;
-      }) (append-nil remarks);
+-- where the play stands after a line whose call came to this
+line-end : (given : Given) (line : PlayLine) (h h' : List Event) (jobs : List PlainJob)
+    (remarks remarks' : List Remark) (asked : Asked) (notice : Option Notice)
+    → h' ≡ (step_of given h jobs line.act asked).events ++ h
+    → notice ≡ (step_of given h jobs line.act asked).notice
+    → remarks' ≡ remarks ++ remarks_on line.line notice
+    → after_line given (record { history = h; hand = jobs; remarks = remarks }) line asked
+    ≡ record {
+      history = h';
+      hand = (step_of given h jobs line.act asked).hand;
+      remarks = remarks';
+    }
+line-end given line h h' jobs remarks remarks' asked notice events notice_is pushed =
+    ap (λ (k : List Event). record {
+      history = k;
+      hand = (step_of given h jobs line.act asked).hand;
+      remarks = remarks ++ remarks_on line.line (step_of given h jobs line.act asked).notice;
+    }) (sym events)
+    ∙ ap (λ (n : Option Notice). record {
+      history = h';
+      hand = (step_of given h jobs line.act asked).hand;
+      remarks = remarks ++ remarks_on line.line n;
+    }) (sym notice_is)
+    ∙ ap (λ (l : List Remark). record {
+      history = h';
+      hand = (step_of given h jobs line.act asked).hand;
+      remarks = l;
+    }) (sym pushed)
+
+-- a line, with a remark or without one
+pub line-leads : (told : Bool) (given : Given) (line : PlayLine) (h h' : List Event)
+    (jobs : List PlainJob) (hand : Hand) (remarks remarks' : List Remark) (notice : Option Notice)
+    (m m' : Moment) → remarks' ≡ remarks ++ remarks_on line.line notice
+    → Makes told given h jobs line.act m m' h' hand notice
+    → LeadsTo told given (record { history = h; hand = jobs; remarks = remarks }) line m m' h' hand
+    remarks'
+line-leads told given line h h' jobs hand remarks remarks' notice m m' pushed made = record {
+  asked = made.comes.asked;
+  asks = made.comes.asks;
+  jobs = (step_of given h jobs line.act made.comes.asked).hand;
+  end = line-end given line h h' jobs remarks remarks' made.comes.asked notice made.comes.events
+      made.notice_is pushed;
   in_hand = made.in_hand;
 }
 
--- one with a remark
-pub line-remarked : (given : Given) (line : PlayLine) (h h' : List Event) (jobs : List PlainJob)
-    (hand : Hand) (remarks remarks' : List Remark) (notice : Notice) (f f' : ℕ)
-    → remarks' ≡ remarks ++ record { line = line.line; notice = notice } ∷ []
-    → Makes given h jobs line.act f f' h' hand (Some notice)
-    → LeadsTo given (record { history = h; hand = jobs; remarks = remarks }) line f f' h' hand
-    remarks'
-line-remarked given line h h' jobs hand remarks remarks' notice f f' pushed made = record {
-  asked = made.asked;
-  cause = made.cause;
-  jobs = (step_of given h jobs line.act made.asked).hand;
-  end = ap (λ (k : List Event). record {
-    history = k;
-    hand = (step_of given h jobs line.act made.asked).hand;
-    remarks = remarks
-        ++ remarks_on line.line (step_of given h jobs line.act made.asked).notice;
-  }) (sym made.events)
-      ∙ ap (λ (n : Option Notice). record {
-        history = h';
-        hand = (step_of given h jobs line.act made.asked).hand;
-        remarks = remarks ++ remarks_on line.line n;
-      }) (sym made.notice_is)
-      ∙ ap (λ (l : List Remark). record {
-        history = h';
-        hand = (step_of given h jobs line.act made.asked).hand;
-        remarks = l;
-      }) (sym pushed);
-  in_hand = made.in_hand;
-}
+pub no-remark : (n : ℕ) (remarks : List Remark) → remarks ≡ remarks ++ remarks_on n None
+no-remark n remarks = sym (append-nil remarks)
 
 -- each line of a script is one that may be played
 pub playable-at : (lines : List PlayLine) (i : ℕ) (d : PlayLine) → i < length lines
@@ -124,92 +112,108 @@ playable-at (line ∷ lines) (suc i) d below are = playable-at lines i d (omega 
 
 -- ---- one line after the other
 
-cause-later : (a b c : ℕ) (asked : Asked) → a ≤ b → b ≤ c → HasCause a b asked → HasCause a c asked
-cause-later a b c asked le more cause is = risen-later a b c le more (cause is)
-
-causes-later : (a b c : ℕ) (asked : List Asked) → a ≤ b → b ≤ c
-    → AllByRecursion (HasCause a b) asked → AllByRecursion (HasCause a c) asked
-causes-later a b c [] le more all = tt
-causes-later a b c (x ∷ asked) le more all =
-    (cause-later a b c x le more all.0, causes-later a b c asked le more all.1)
-
-all-more : {X : Type 0} (P : X → Type 0) (xs : List X) (x : X) → AllByRecursion P xs → P x
-    → AllByRecursion P (xs ++ x ∷ [])
-all-more P [] x all is = (is, tt)
-all-more P (y ∷ xs) x all is = (all.0, all-more P xs x all.1 is)
-
-played-more : (given : Given) (s : Play) (lines : List PlayLine) (asked : List Asked)
-    (line : PlayLine) (a : Asked) → length asked ≡ length lines
-    → played given s (lines ++ line ∷ []) (asked ++ a ∷ [])
-    ≡ after_line given (played given s lines asked) line a
-unfolding played
-played-more given s [] [] line a len = refl
-played-more given s [] (b ∷ asked) line a len = absurd (omega arith)
-played-more given s (l ∷ lines) [] line a len = absurd (omega arith)
-played-more given s (l ∷ lines) (b ∷ asked) line a len =
-    played-more given (after_line given s l b) lines asked line a (omega arith)
+-- lines after others
+trace-append : (told : Bool) (given : Given) (s t u : Play) (m n k : Moment)
+    (xs ys : List PlayLine) (es fs : List Entry) → Trace told given s m xs es t n
+    → Trace told given t n ys fs u k → Trace told given s m (xs ++ ys) (es ++ fs) u k
+unfolding Trace
+trace-append told given s t u m n k [] ys [] fs first next =
+    subst (λ (p : Play). Trace told given p m ys fs u k) (sym first.0)
+    (subst (λ (q : Moment). Trace told given t q ys fs u k) (sym first.1) next)
+trace-append told given s t u m n k [] ys (e ∷ es) fs first next = absurd first
+trace-append told given s t u m n k (x ∷ xs) ys [] fs first next = absurd first
+trace-append told given s t u m n k (x ∷ xs) ys (e ∷ es) fs first next = (
+  first.0,
+  trace-append told given (after_line given s x e.asked) t u e.after n k xs ys es fs first.1 next,
+)
 
 -- no line leads nowhere
-plays-none : (given : Given) (s : Play) (f : ℕ) → PlaysTo given s [] f f s
-unfolding played
-plays-none given s f = record { asked = []; each = refl; causes = tt; end = refl }
+pub plays-none : (told : Bool) (given : Given) (s : Play) (m : Moment)
+    → PlaysTo told given s m [] s m
+unfolding Trace
+plays-none told given s m = record { entries = []; trace = (refl, refl) }
 
 -- one line more
-plays-more : (given : Given) (s t u : Play) (lines : List PlayLine) (line : PlayLine)
-    (f0 f1 f2 : ℕ) → f0 ≤ f1 → f1 ≤ f2 → PlaysTo given s lines f0 f1 t
-    → (asked : Asked) × HasCause f1 f2 asked × (after_line given t line asked ≡ u)
-    → PlaysTo given s (lines ++ line ∷ []) f0 f2 u
-plays-more given s t u lines line f0 f1 f2 le more plays (a, cause, is) = record {
-  asked = plays.asked ++ a ∷ [];
-  each = length-append plays.asked (a ∷ []) ∙ ap (λ (n : ℕ). n + 1) plays.each
-      ∙ sym (length-append lines (line ∷ []));
-  causes = all-more (HasCause f0 f2) plays.asked a
-      (causes-later f0 f1 f2 plays.asked le more plays.causes)
-      (λ failed. risen-earlier f0 f1 f2 le (cause failed));
-  end = played-more given s lines plays.asked line a plays.each
-      ∙ ap (λ (p : Play). after_line given p line a) plays.end ∙ is;
+plays-more : (told : Bool) (given : Given) (s t u : Play) (m n k : Moment) (lines : List PlayLine)
+    (line : PlayLine) (asked : Asked) → PlaysTo told given s m lines t n
+    → Asks told given t.history line.act n (record { asked = asked; after = k })
+    → after_line given t line asked ≡ u → PlaysTo told given s m (lines ++ line ∷ []) u k
+unfolding Trace
+plays-more told given s t u m n k lines line asked plays asks end = record {
+  entries = plays.entries ++ record { asked = asked; after = k } ∷ [];
+  trace = trace-append told given s t u m n k lines (line ∷ []) plays.entries
+      (record { asked = asked; after = k } ∷ []) plays.trace (asks, (end, refl));
 }
 
-plays-next : (given : Given) (s t u : Play) (lines : List PlayLine) (i : ℕ) (line d : PlayLine)
-    (f0 f1 f2 : ℕ) → f0 ≤ f1 → f1 ≤ f2 → i < length lines → line ≡ get_or lines i d
-    → PlaysTo given s (take i lines) f0 f1 t
-    → (asked : Asked) × HasCause f1 f2 asked × (after_line given t line asked ≡ u)
-    → PlaysTo given s (take (i + 1) lines) f0 f2 u
-plays-next given s t u lines i line d f0 f1 f2 le more below is plays step =
-    subst (λ (l : List PlayLine). PlaysTo given s l f0 f2 u)
+plays-next : (told : Bool) (given : Given) (s t u : Play) (m n k : Moment) (lines : List PlayLine)
+    (i : ℕ) (line d : PlayLine) (asked : Asked) → i < length lines → line ≡ get_or lines i d
+    → PlaysTo told given s m (take i lines) t n
+    → Asks told given t.history line.act n (record { asked = asked; after = k })
+    → after_line given t line asked ≡ u → PlaysTo told given s m (take (i + 1) lines) u k
+plays-next told given s t u m n k lines i line d asked below is plays asks end =
+    subst (λ (l : List PlayLine). PlaysTo told given s m l u k)
     (ap (λ (x : PlayLine). take i lines ++ x ∷ []) is ∙ sym (take-suc lines i d below)
     ∙ ap (λ (n : ℕ). take n lines) (sym (add-one i)))
-    (plays-more given s t u (take i lines) line f0 f1 f2 le more plays step)
+    (plays-more told given s t u m n k (take i lines) line asked plays asks end)
 
 -- no line leads on with what is in hand
-pub lead-none : (given : Given) (h : List Event) (jobs : List PlainJob) (hand : Hand)
-    (remarks : List Remark) (f : ℕ) → HasInHand given h jobs hand
-    → LeadTo given (record { history = h; hand = jobs; remarks = remarks }) [] f f h hand remarks
-lead-none given h jobs hand remarks f has = record {
+pub lead-none : (told : Bool) (given : Given) (h : List Event) (jobs : List PlainJob) (hand : Hand)
+    (remarks : List Remark) (m : Moment) → HasInHand given h jobs hand
+    → LeadTo told given (record { history = h; hand = jobs; remarks = remarks }) [] m m h hand
+    remarks
+lead-none told given h jobs hand remarks m has = record {
   jobs = jobs;
-  plays = plays-none given (record { history = h; hand = jobs; remarks = remarks }) f;
+  plays = plays-none told given (record { history = h; hand = jobs; remarks = remarks }) m;
   in_hand = has;
 }
 
--- one line more
-pub lead-next : (given : Given) (s : Play) (lines : List PlayLine) (i : ℕ) (line d : PlayLine)
-    (f0 f1 f2 : ℕ) (h h' : List Event) (hand hand' : Hand) (remarks remarks' : List Remark)
-    → f0 ≤ f1 → f1 ≤ f2 → i < length lines → line ≡ get_or lines i d
-    → LeadTo given s (take i lines) f0 f1 h hand remarks
-    → ((jobs : List PlainJob) → HasInHand given h jobs hand
-    → LeadsTo given (record { history = h; hand = jobs; remarks = remarks }) line f1 f2 h' hand'
-    remarks')
-    → LeadTo given s (take (i + 1) lines) f0 f2 h' hand' remarks'
-lead-next given s lines i line d f0 f1 f2 h h' hand hand' remarks remarks' le more below is led step =
-    let next = step led.jobs led.in_hand in
-    record {
-      jobs = next.jobs;
-      plays = plays-next given s
-          (record { history = h; hand = led.jobs; remarks = remarks })
-          (record { history = h'; hand = next.jobs; remarks = remarks' }) lines i line d f0 f1 f2
-          le more below is led.plays (next.asked, next.cause, next.end);
-      in_hand = next.in_hand;
-    }
+module _ (told : Bool) (given : Given) (s : Play) (lines : List PlayLine) (i : ℕ)
+    (line d : PlayLine) (m n k : Moment) (h h' : List Event) (hand : Hand)
+    (remarks : List Remark) (below : i < length lines) (is : line ≡ get_or lines i d)
+    (led : LeadTo told given s (take i lines) m n h hand remarks) where
+  -- one line more
+  pub lead-next : (hand' : Hand) (remarks' : List Remark)
+      → ((jobs : List PlainJob) → HasInHand given h jobs hand
+      → LeadsTo told given (record { history = h; hand = jobs; remarks = remarks }) line n k h' hand'
+      remarks')
+      → LeadTo told given s (take (i + 1) lines) m k h' hand' remarks'
+  lead-next hand' remarks' step =
+      let next = step led.jobs led.in_hand in
+      record {
+        jobs = next.jobs;
+        plays = plays-next told given s
+            (record { history = h; hand = led.jobs; remarks = remarks })
+            (record { history = h'; hand = next.jobs; remarks = remarks' }) m n k lines i line d
+            next.asked below is led.plays next.asks next.end;
+        in_hand = next.in_hand;
+      }
+
+  -- memory ran out at this line
+  pub lead-stops : ((jobs : List PlainJob) → HasInHand given h jobs hand
+      → Breaks told given h jobs line.act n k h')
+      → StopsIn told given s lines m k h'
+  lead-stops step = stopped (step led.jobs led.in_hand)
+    where
+      stopped : Breaks told given h led.jobs line.act n k h' → StopsIn told given s lines m k h'
+      stopped (inl left) = record {
+        count = i;
+        play = record { history = h; hand = led.jobs; remarks = remarks };
+        last = n;
+        plays = led.plays;
+        history_is = left.0;
+        stopped = left.1;
+      }
+      stopped (inr comes) = record {
+        count = i + 1;
+        play = after_line given (record { history = h; hand = led.jobs; remarks = remarks }) line
+            comes.asked;
+        last = k;
+        plays = plays-next told given s
+            (record { history = h; hand = led.jobs; remarks = remarks }) _ m n k lines i line d
+            comes.asked below is led.plays comes.asks refl;
+        history_is = comes.events;
+        stopped = aborted-same told k k refl;
+      }
 
 -- ---- the whole play
 
@@ -230,24 +234,47 @@ kept-from given given' told told' store0 store store' h same told_is same_told k
 }
 
 -- with no event and no job in hand the lines lead on from the start
-pub lead-from-start : (given : Given) (h : List Event) (remarks : List Remark)
-    (lines : List PlayLine) (f f' : ℕ) (h' : List Event) (hand hand' : Hand)
-    (remarks' : List Remark) → h ≡ [] → remarks ≡ [] → AreIn hand []
-    → ((jobs : List PlainJob) → HasInHand given h jobs hand → LeadTo given
-    (record { history = h; hand = jobs; remarks = remarks }) lines f f' h' hand' remarks')
-    → (jobs : List PlainJob) × PlaysTo given start lines f f'
-    (record { history = h'; hand = jobs; remarks = remarks' })
-lead-from-start given h remarks lines f f' h' hand hand' remarks' no_events no_remarks none lead =
-    let e = expects-start given in
-    let led = lead [] (subst (λ (k : List Event). HasInHand given k [] hand) (sym no_events)
-    (record { each = none; expected = e.expected; fresh = e.fresh })) in (
-      led.jobs,
-      subst (λ (s : Play). PlaysTo given s lines f f'
-          (record { history = h'; hand = led.jobs; remarks = remarks' }))
-          (ap (λ (k : List Event). record { history = k; hand = []; remarks = remarks }) no_events
-          ∙ ap (λ (l : List Remark). record { history = []; hand = []; remarks = l }) no_remarks)
-          led.plays,
-    )
+module _ (told : Bool) (given : Given) (h : List Event) (remarks : List Remark)
+    (lines : List PlayLine) (m m' : Moment) (h' : List Event) (hand : Hand) (no_events : h ≡ [])
+    (no_remarks : remarks ≡ []) (none : AreIn hand []) where
+  at-start : record { history = h; hand = []; remarks = remarks } ≡ start
+  at-start = ap (λ (k : List Event). record { history = k; hand = []; remarks = remarks }) no_events
+      ∙ ap (λ (l : List Remark). record { history = []; hand = []; remarks = l }) no_remarks
+
+  has-none : HasInHand given h [] hand
+  has-none = let e = expects-start given in
+      subst (λ (k : List Event). HasInHand given k [] hand) (sym no_events)
+      (record { each = none; expected = e.expected; fresh = e.fresh })
+
+  pub lead-from-start : (hand' : Hand) (remarks' : List Remark)
+      → ((jobs : List PlainJob) → HasInHand given h jobs hand → LeadTo told given
+      (record { history = h; hand = jobs; remarks = remarks }) lines m m' h' hand' remarks')
+      → (jobs : List PlainJob) × PlaysTo told given start m lines
+      (record { history = h'; hand = jobs; remarks = remarks' }) m'
+  lead-from-start hand' remarks' lead =
+      let led = lead [] has-none in (
+        led.jobs,
+        subst (λ (s : Play). PlaysTo told given s m lines
+            (record { history = h'; hand = led.jobs; remarks = remarks' }) m') at-start led.plays,
+      )
+
+  pub stops-from-start : ((jobs : List PlainJob) → HasInHand given h jobs hand
+      → StopsIn told given (record { history = h; hand = jobs; remarks = remarks }) lines m m' h')
+      → StopsIn told given start lines m m' h'
+  stops-from-start stops =
+      subst (λ (s : Play). StopsIn told given s lines m m' h') at-start (stops [] has-none)
+
+-- memory ran out before the first line
+pub stops-at-once : (told : Bool) (given : Given) (lines : List PlayLine) (m m' : Moment)
+    (h : List Event) → h ≡ [] → m' ≡ m → StopsIn told given start lines m m' h
+stops-at-once told given lines m m' h none same = record {
+  count = 0;
+  play = start;
+  last = m;
+  plays = plays-none told given start m;
+  history_is = none;
+  stopped = aborted-same told m m' same;
+}
 
 -- ---- the setup
 
@@ -302,8 +329,6 @@ kept-at-start setup logs told store legal = record {
 
 -- ---- what an answer says
 
-pub if_ok : {T E : Type 0} (r : Result T E) (x : T) (P : T → Type 0) → r ≡ Ok x → P x → IfOk r P
-if_ok {T} {E} r x P is p = subst (λ (y : Result T E). IfOk y P) (sym is) p
-
-pub if_err : {T E : Type 0} (r : Result T E) (e : E) (P : T → Type 0) → r ≡ Err e → IfOk r P
-if_err {T} {E} r e P is = subst (λ (y : Result T E). IfOk y P) (sym is) tt
+pub on-err : {T E P : Type 0} (r : Result T E) → P → OnErr r P
+on-err (Ok x) p = tt
+on-err (Err e) p = p

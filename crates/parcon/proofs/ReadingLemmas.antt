@@ -27,6 +27,13 @@ pub risen-earlier : (a b c : ℕ) → a ≤ b → HasRisen b c → HasRisen a c
 risen-earlier a b c le (inl lt) = inl (omega arith)
 risen-earlier a b c le (inr top) = inr top
 
+-- no name's count fell
+abbrev pub IsLater : (List ℕ → ℕ) → (List ℕ → ℕ) → Type 0
+IsLater before after = (n : List ℕ) → before n ≤ after n
+
+pub le-trans : (a b c : ℕ) → a ≤ b → b ≤ c → a ≤ c
+le-trans a b c le more = omega arith
+
 -- ---- answers of reads
 
 answer-later : (told : Option (List ℕ)) (a b c : ℕ) (x : ReadAnswer) → a ≤ b → b ≤ c
@@ -94,45 +101,48 @@ unread told [] = []
 unread told (name ∷ names) =
     record { name = name; answer = some_answer (told name) } ∷ unread told names
 
-unread-answers : (names : List (List ℕ)) (told : List ℕ → Option (List ℕ)) (f f' : ℕ)
+unread-answers : (names : List (List ℕ)) (told : List ℕ → Option (List ℕ))
+    (f f' : List ℕ → ℕ)
     → AreLogAnswers names told f f' (unread told names)
 unread-answers [] told f f' = record { named = refl; each = tt }
 unread-answers (name ∷ names) told f f' =
     let others = unread-answers names told f f' in
     record {
       named = ap (λ (l : List (List ℕ)). name ∷ l) others.named;
-      each = (some-answer (told name) f f', others.each);
+      each = (some-answer (told name) (f name) (f' name), others.each);
     }
 
 -- ---- answers of several reads
 
-each-later : (told : List ℕ → Option (List ℕ)) (a b c : ℕ) (reads : List FileRead) → a ≤ b → b ≤ c
-    → AllByRecursion (λ r. IsAnswer (told r.name) a b r.answer) reads
-    → AllByRecursion (λ r. IsAnswer (told r.name) a c r.answer) reads
+each-later : (told : List ℕ → Option (List ℕ)) (a b c : List ℕ → ℕ) (reads : List FileRead)
+    → IsLater a b → IsLater b c
+    → AllByRecursion (λ r. IsAnswer (told r.name) (a r.name) (b r.name) r.answer) reads
+    → AllByRecursion (λ r. IsAnswer (told r.name) (a r.name) (c r.name) r.answer) reads
 each-later told a b c [] le more each = tt
 each-later told a b c (r ∷ reads) le more each = (
-  answer-later (told r.name) a b c r.answer le more each.0,
+  answer-later (told r.name) (a r.name) (b r.name) (c r.name) r.answer (le r.name) (more r.name)
+      each.0,
   each-later told a b c reads le more each.1,
 )
 
-each-append : (told : List ℕ → Option (List ℕ)) (a c : ℕ) (reads more : List FileRead)
-    → AllByRecursion (λ r. IsAnswer (told r.name) a c r.answer) reads
-    → AllByRecursion (λ r. IsAnswer (told r.name) a c r.answer) more
-    → AllByRecursion (λ r. IsAnswer (told r.name) a c r.answer) (reads ++ more)
+each-append : (told : List ℕ → Option (List ℕ)) (a c : List ℕ → ℕ) (reads more : List FileRead)
+    → AllByRecursion (λ r. IsAnswer (told r.name) (a r.name) (c r.name) r.answer) reads
+    → AllByRecursion (λ r. IsAnswer (told r.name) (a r.name) (c r.name) r.answer) more
+    → AllByRecursion (λ r. IsAnswer (told r.name) (a r.name) (c r.name) r.answer) (reads ++ more)
 each-append told a c [] more each last = last
 each-append told a c (r ∷ reads) more each last =
     (each.0, each-append told a c reads more each.1 last)
 
-pub answers-later : (names : List (List ℕ)) (told : List ℕ → Option (List ℕ)) (a b c : ℕ)
-    (reads : List FileRead) → a ≤ b → b ≤ c → AreLogAnswers names told a b reads
+pub answers-later : (names : List (List ℕ)) (told : List ℕ → Option (List ℕ))
+    (a b c : List ℕ → ℕ) (reads : List FileRead) → IsLater a b → IsLater b c → AreLogAnswers names told a b reads
     → AreLogAnswers names told a c reads
 answers-later names told a b c reads le more are = record {
   named = are.named;
   each = each-later told a b c reads le more are.each;
 }
 
-answers-append : (front back : List (List ℕ)) (told : List ℕ → Option (List ℕ)) (a c : ℕ)
-    (reads more : List FileRead) → AreLogAnswers front told a c reads
+answers-append : (front back : List (List ℕ)) (told : List ℕ → Option (List ℕ))
+    (a c : List ℕ → ℕ) (reads more : List FileRead) → AreLogAnswers front told a c reads
     → AreLogAnswers back told a c more → AreLogAnswers (front ++ back) told a c (reads ++ more)
 answers-append front back told a c reads more are last = record {
   named = map-append (λ (r : FileRead). r.name) reads more
@@ -143,15 +153,15 @@ answers-append front back told a c reads more are last = record {
 
 -- one read more, after the others
 answers-cons : (name : List ℕ) (back : List (List ℕ)) (told told' : List ℕ → Option (List ℕ))
-    (a b c : ℕ) (x : ReadAnswer) (more : List FileRead) → a ≤ b
-    → ((n : List ℕ) → told' n ≡ told n) → IsAnswer (told' name) b c x
+    (a b c : List ℕ → ℕ) (x : ReadAnswer) (more : List FileRead) → IsLater a b
+    → ((n : List ℕ) → told' n ≡ told n) → IsAnswer (told' name) (b name) (c name) x
     → AreLogAnswers back told a c more
     → AreLogAnswers (name ∷ back) told a c (record { name = name; answer = x } ∷ more)
 answers-cons name back told told' a b c x more le keeps is last = record {
   named = ap (λ (l : List (List ℕ)). name ∷ l) last.named;
   each = (
-    answer-earlier (told name) a b c x le
-        (subst (λ (t : Option (List ℕ)). IsAnswer t b c x) (keeps name) is),
+    answer-earlier (told name) (a name) (b name) (c name) x (le name)
+        (subst (λ (t : Option (List ℕ)). IsAnswer t (b name) (c name) x) (keeps name) is),
     last.each,
   );
 }
@@ -174,15 +184,15 @@ joined-more front x (Err s) = refl
 
 -- ---- the reads of the logs so far
 
-pub record AreRead (names : List (List ℕ)) (told : List ℕ → Option (List ℕ)) (before after : ℕ)
-    (texts : List FileText) (used : ℕ) : Type 0 where
+pub record AreRead (names : List (List ℕ)) (told : List ℕ → Option (List ℕ))
+    (before after : List ℕ → ℕ) (texts : List FileText) (used : ℕ) : Type 0 where
   pub reads : List FileRead
   pub answers : AreLogAnswers names told before after reads
   -- what comes of these and of more reads
   pub with_more : (more : List FileRead) → logs_answered 0 (reads ++ more)
       ≡ joined texts (logs_answered used more)
 
-pub read-none : (told : List ℕ → Option (List ℕ)) (f : ℕ) → AreRead [] told f f [] 0
+pub read-none : (told : List ℕ → Option (List ℕ)) (f : List ℕ → ℕ) → AreRead [] told f f [] 0
 read-none told f = record {
   reads = [];
   answers = record { named = refl; each = tt };
@@ -195,8 +205,9 @@ after_log used more text = text >>= λ t. logs_answered (used + length t.bytes) 
     >>= λ texts. Ok (t ∷ texts)
 
 module _ (names : List (List ℕ)) (name : List ℕ) (told told' : List ℕ → Option (List ℕ))
-    (f0 f1 f2 : ℕ) (texts : List FileText) (used : ℕ) (later : f0 ≤ f1) (last : f1 ≤ f2)
-    (keeps : (n : List ℕ) → told' n ≡ told n) (are : AreRead names told f0 f1 texts used) where
+    (f0 f1 f2 : List ℕ → ℕ) (texts : List FileText) (used : ℕ) (later : IsLater f0 f1)
+    (last : IsLater f1 f2) (keeps : (n : List ℕ) → told' n ≡ told n)
+    (are : AreRead names told f0 f1 texts used) where
   -- what comes of the reads so far, of this one and of more
   with-answer : (answer : ReadAnswer) (r : Result FileText Status) (more : List FileRead)
       → log_answered used (record { name = name; answer = answer }) ≡ r
@@ -206,7 +217,7 @@ module _ (names : List (List ℕ)) (name : List ℕ) (told told' : List ℕ → 
       are.with_more (record { name = name; answer = answer } ∷ more)
       ∙ ap (λ (t : Result FileText Status). joined texts (after_log used more t)) is
 
-  pub read-more : (text : FileText) → IsFromLog name (told' name) f1 f2 used (Ok text)
+  pub read-more : (text : FileText) → IsFromLog name (told' name) (f1 name) (f2 name) used (Ok text)
       → AreRead (names ++ name ∷ []) told f0 f2 (texts ++ text ∷ [])
       (used + length text.bytes)
   read-more text log = record {
@@ -224,7 +235,7 @@ module _ (names : List (List ℕ)) (name : List ℕ) (told told' : List ℕ → 
   }
 
   pub read-fault : (back : List (List ℕ)) (s : Status)
-      → IsFromLog name (told' name) f1 f2 used (Err s)
+      → IsFromLog name (told' name) (f1 name) (f2 name) used (Err s)
       → IsFromLogs (names ++ name ∷ back) told f0 f2 (Err s)
   read-fault back s log = record {
     reads = are.reads ++ record { name = name; answer = log.answer } ∷ unread told back;
@@ -236,7 +247,7 @@ module _ (names : List (List ℕ)) (name : List ℕ) (told told' : List ℕ → 
     texts = with-answer log.answer (Err s) (unread told back) log.text;
   }
 
-pub read-all : (names : List (List ℕ)) (told : List ℕ → Option (List ℕ)) (f f' : ℕ)
+pub read-all : (names : List (List ℕ)) (told : List ℕ → Option (List ℕ)) (f f' : List ℕ → ℕ)
     (texts : List FileText) (used : ℕ) → AreRead names told f f' texts used
     → IsFromLogs names told f f' (Ok texts)
 read-all names told f f' texts used are = record {
@@ -249,13 +260,13 @@ read-all names told f f' texts used are = record {
 -- ---- the loop over the names
 
 module _ {X : Type 0} (f : X → List ℕ) (xs : List X) (i : ℕ) (x : X) (name : List ℕ)
-    (told told' : List ℕ → Option (List ℕ)) (f0 f1 f2 : ℕ) (texts : List FileText) (used : ℕ)
-    (below : i < length xs) (item : x ≡ get_or xs i x) (named : name ≡ f x) (later : f0 ≤ f1)
-    (last : f1 ≤ f2) (keeps : (n : List ℕ) → told' n ≡ told n)
+    (told told' : List ℕ → Option (List ℕ)) (f0 f1 f2 : List ℕ → ℕ) (texts : List FileText)
+    (used : ℕ) (below : i < length xs) (item : x ≡ get_or xs i x) (named : name ≡ f x)
+    (later : IsLater f0 f1) (last : IsLater f1 f2) (keeps : (n : List ℕ) → told' n ≡ told n)
     (are : AreRead (map f (take i xs)) told f0 f1 texts used) where
   pub read-next : (text : FileText) (texts' : List FileText) (size : ℕ)
       → size ≡ length text.bytes → texts' ≡ texts ++ text ∷ []
-      → IsFromLog name (told' name) f1 f2 used (Ok text)
+      → IsFromLog name (told' name) (f1 name) (f2 name) used (Ok text)
       → AreRead (map f (take (i + 1) xs)) told f0 f2 texts' (used + size)
   read-next text texts' size sized more log =
       subst (λ (names : List (List ℕ)). AreRead names told f0 f2 texts' (used + size))
@@ -267,7 +278,7 @@ module _ {X : Type 0} (f : X → List ℕ) (xs : List X) (i : ℕ) (x : X) (name
       (read-more (map f (take i xs)) name told told' f0 f1 f2 texts used later last keeps are text
       log)))
 
-  pub read-stops : (s : Status) → IsFromLog name (told' name) f1 f2 used (Err s)
+  pub read-stops : (s : Status) → IsFromLog name (told' name) (f1 name) (f2 name) used (Err s)
       → IsFromLogs (map f xs) told f0 f2 (Err s)
   read-stops s log =
       subst (λ (names : List (List ℕ)). IsFromLogs names told f0 f2 (Err s))
@@ -299,13 +310,13 @@ log-unread name told f f' used s file = record {
 }
 
 -- some answers may come of any files
-pub any-answers : (files : PlayFiles) (told : List ℕ → Option (List ℕ)) (f f' : ℕ)
+pub any-answers : (files : PlayFiles) (told : List ℕ → Option (List ℕ)) (f f' : List ℕ → ℕ)
     → (reads : Reads) × AreAnswers files told f f' reads
 any-answers files told f f' = (
   record { logs = unread told files.logs; script = some_answer (told files.script) },
   record {
     logs = unread-answers files.logs told f f';
-    script = some-answer (told files.script) f f';
+    script = some-answer (told files.script) (f files.script) (f' files.script);
   },
 )
 
@@ -315,7 +326,7 @@ abbrev unwrapped : Option PlayFiles → PlayFiles
 unwrapped o = unwrap_or o (record { logs = []; script = [] })
 
 -- words that are no command name no log
-pub no-command : (words : List (List ℕ)) (told : List ℕ → Option (List ℕ)) (f f' : ℕ)
+pub no-command : (words : List (List ℕ)) (told : List ℕ → Option (List ℕ)) (f f' : List ℕ → ℕ)
     → None ≡ command_of words → IsFromFiles words told f f' (Err Usage)
 no-command words told f f' none = record {
   reads = record { logs = []; script = some_answer (told (files_of words).script) };
@@ -324,7 +335,8 @@ no-command words told f f' none = record {
       named = ap (λ (o : Option PlayFiles). (unwrapped o).logs) none;
       each = tt;
     };
-    script = some-answer (told (files_of words).script) f f';
+    script = some-answer (told (files_of words).script) (f (files_of words).script)
+        (f' (files_of words).script);
   };
   texts = ap (λ (o : Option PlayFiles). ok_or o Usage >>= λ files.
       logs_answered 0 [] >>= λ logs.
@@ -337,8 +349,8 @@ abbrev behind_logs : List ℕ → ReadAnswer → Result (List FileText) Status �
 behind_logs name script logs = logs >>= λ l. answered name script
     >>= λ s. Ok (record { logs = l; script = s })
 
-module _ (words : List (List ℕ)) (told : List ℕ → Option (List ℕ)) (f0 f2 : ℕ) (files : PlayFiles)
-    (named : Some files ≡ command_of words) where
+module _ (words : List (List ℕ)) (told : List ℕ → Option (List ℕ)) (f0 f2 : List ℕ → ℕ)
+    (files : PlayFiles) (named : Some files ≡ command_of words) where
   -- the answers of the reads are what comes of the files
   from-answers : (reads : Reads) (got : Result FileTexts Status)
       → AreAnswers files told f0 f2 reads
@@ -354,31 +366,34 @@ module _ (words : List (List ℕ)) (told : List ℕ → Option (List ℕ)) (f0 f
   }
 
   -- the reads of the logs ended the play
-  pub logs-unread : (f1 : ℕ) (s : Status) → f0 ≤ f1 → f1 ≤ f2
+  pub logs-unread : (f1 : List ℕ → ℕ) (s : Status) → IsLater f0 f1 → IsLater f1 f2
       → IsFromLogs files.logs told f0 f1 (Err s) → IsFromFiles words told f0 f2 (Err s)
   logs-unread f1 s later last logs =
       from-answers
       (record { logs = logs.reads; script = some_answer (told files.script) }) (Err s)
       (record {
         logs = answers-later files.logs told f0 f1 f2 logs.reads later last logs.answers;
-        script = some-answer (told files.script) f0 f2;
+        script = some-answer (told files.script) (f0 files.script) (f2 files.script);
       })
       (ap (behind_logs files.script (some_answer (told files.script))) logs.texts)
 
-  module _ (f1 : ℕ) (told' : List ℕ → Option (List ℕ)) (texts : List FileText) (later : f0 ≤ f1)
-      (last : f1 ≤ f2) (keeps : (n : List ℕ) → told' n ≡ told n)
+  module _ (f1 : List ℕ → ℕ) (told' : List ℕ → Option (List ℕ)) (texts : List FileText)
+      (later : IsLater f0 f1) (last : IsLater f1 f2) (keeps : (n : List ℕ) → told' n ≡ told n)
       (logs : IsFromLogs files.logs told f0 f1 (Ok texts)) where
     -- the script's read gave this
     script-answered : (r : Result (List ℕ) Status) (got : Result FileTexts Status)
-        → IsFromFile files.script (told' files.script) f1 f2 r
+        → IsFromFile files.script (told' files.script) (f1 files.script)
+        (f2 files.script) r
         → (r >>= λ s. Ok (record { logs = texts; script = s })) ≡ got
         → IsFromFiles words told f0 f2 got
     script-answered r got script is =
         from-answers (record { logs = logs.reads; script = script.answer }) got
         (record {
           logs = answers-later files.logs told f0 f1 f2 logs.reads later last logs.answers;
-          script = answer-earlier (told files.script) f0 f1 f2 script.answer later
-              (subst (λ (t : Option (List ℕ)). IsAnswer t f1 f2 script.answer)
+          script = answer-earlier (told files.script) (f0 files.script) (f1 files.script)
+              (f2 files.script) script.answer (later files.script)
+              (subst (λ (t : Option (List ℕ)).
+              IsAnswer t (f1 files.script) (f2 files.script) script.answer)
               (keeps files.script) script.is_answer);
         })
         (ap (behind_logs files.script script.answer) logs.texts
@@ -387,12 +402,14 @@ module _ (words : List (List ℕ)) (told : List ℕ → Option (List ℕ)) (f0 f
 
     -- the script's read ended the play
     pub script-unread : (s : Status)
-        → IsFromFile files.script (told' files.script) f1 f2 (Err s)
+        → IsFromFile files.script (told' files.script) (f1 files.script)
+        (f2 files.script) (Err s)
         → IsFromFiles words told f0 f2 (Err s)
     script-unread s script = script-answered (Err s) (Err s) script refl
 
     -- all were read
-    pub all-read : (text : List ℕ) → IsFromFile files.script (told' files.script) f1 f2 (Ok text)
+    pub all-read : (text : List ℕ) → IsFromFile files.script (told' files.script) (f1 files.script)
+        (f2 files.script) (Ok text)
         → IsFromFiles words told f0 f2 (Ok (record { logs = texts; script = text }))
     all-read text script = script-answered (Ok text) _ script refl
 

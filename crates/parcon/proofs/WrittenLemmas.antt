@@ -196,17 +196,18 @@ no-line-memory = refl
 pub fault-written : (put : Result (Unit {0}) OutputFault) (s given : Status)
     (before now : Option (List ℕ)) (f f' : ℕ)
     → OnOk put (now ≡ with_bytes before (fault_line s)) → HasFront before now (fault_line s)
-    → (put ≡ Err output.SinkFailed → HasRisen f f') → given ≡ status_after s put
+    → (put ≡ Err output.SinkFailed → HasRisen f f') → OnOk put (f' ≡ f)
+    → given ≡ status_after s put
     → IsWritten before now f f' (fault_line s) s given
-fault-written (Ok done) s given before now f f' whole front failed is =
-    record { status = inl is; front = front; whole = λ same. whole }
-fault-written (Err output.SinkFailed) s given before now f f' whole front failed is = record {
+fault-written (Ok done) s given before now f f' whole front failed unfailed is =
+    record { status = inl (is, unfailed); front = front; whole = λ same. whole }
+fault-written (Err output.SinkFailed) s given before now f f' whole front failed unfailed is = record {
   status = inr (inl (is, failed refl));
   front = front;
   whole = λ same. whole-empty before now (fault_line s) front
       (ap fault_line (sym same ∙ is) ∙ no-line-sink);
 }
-fault-written (Err output.NoMemory) s given before now f f' whole front failed is = record {
+fault-written (Err output.NoMemory) s given before now f f' whole front failed unfailed is = record {
   status = inr (inr is);
   front = front;
   whole = λ same. whole-empty before now (fault_line s) front
@@ -225,7 +226,7 @@ unchanged before now s is has =
 pub memory-written : (before : Option (List ℕ)) (f : ℕ) (s : Status) → s ≡ NoMemory
     → IsWritten before before f f (fault_line s) s NoMemory
 memory-written before f s is = record {
-  status = inl (sym is);
+  status = inl (sym is, refl);
   front = front-none before (fault_line s);
   whole = λ same. sym (ap (with_bytes before) (ap fault_line is ∙ no-line-memory)
       ∙ with_bytes-none before);

@@ -5,7 +5,6 @@ use Rattle.std.specs.List.{flat_map}
 use Rattle.pc_model.specs.declared.event.Event.{Event}
 use Rattle.pc_model.specs.declared.map_fault.MapFault.{MapFault}
 use Rattle.pc_model.specs.declared.map_fault.MapFault.TheVariants as map
-use Rattle.pc_model.specs.Given.{Given}
 use Rattle.pc_print.specs.Line.{marked, named, spaced, text_of}
 use Rattle.pc_script.specs.declared.play.PlayLine.{PlayLine}
 use Rattle.pc_script.specs.Kinds.{kind_text}
@@ -21,22 +20,17 @@ use Rattle.parcon.specs.declared.status.Status.TheVariants as status
 use Rattle.parcon.specs.declared.status.LimitKind.{LimitKind}
 use Rattle.parcon.specs.declared.status.LimitKind.TheVariants.{FileBytes, LogBytes, Records, ScriptLines}
 use Rattle.parcon.specs.LogFault.{log_line, fault_words}
-use Rattle.parcon.specs.Play.{Asked, Play, start, played}
+use Rattle.parcon.specs.Play.{Play}
 
--- the status of a play, its history, the newest event first, and its remarks
-pub record Ending : Type 0 where
-  pub status : Status
-  pub play : Play
+-- the lines that are played: none where something keeps the play from beginning
+abbrev pub lines_in : Result (List PlayLine) Status → List PlayLine
+lines_in (Ok lines) = lines
+lines_in (Err s) = []
 
--- an ending before anything is played
-abbrev pub ends : Status → Ending
-ends s = record { status = s; play = start }
-
--- the ending of the play of these lines, whose link did this, or of what keeps it from beginning
-abbrev pub ending_of : Given → Result (List PlayLine) Status → List Asked → Ending
-ending_of given (Ok lines) asked =
-    record { status = status.Whole; play = played given start lines asked }
-ending_of given (Err s) asked = ends s
+-- the status of a play to which neither its sink nor memory was wanting
+abbrev pub wanted_status : Result (List PlayLine) Status → Status
+wanted_status (Ok lines) = status.Whole
+wanted_status (Err s) = s
 
 -- ---- remarks
 
@@ -138,6 +132,6 @@ fault_line status.NoMemory = []
 fault_line (status.NotBuilt line) =
     line_of_words (codes "fault" ∷ codes "not-built" ∷ decimal line ∷ [])
 
--- the output of an ending: the play's, and the fault line as the last one
-abbrev pub output_of : Ending → List ℕ
-output_of ending = play_text ending.play ++ fault_line ending.status
+-- the output of a play that ends with a status: its text, and the fault line as the last one
+abbrev pub output_of : Status → Play → List ℕ
+output_of s play = play_text play ++ fault_line s

@@ -1,23 +1,23 @@
 -- The play of a script: what each line does to the history and to the jobs in hand, and what it
 -- leaves to be remarked.
-use Rattle.std.specs.Prelude.{ℕ, ◌≡◌, ◌==◌, if◌then◌else◌, List, [], ◌∷◌, ◌++◌, length, Option, Some, None, Result, Ok, Err}
-use Rattle.std.specs.List.{AllByRecursion}
+use Rattle.std.specs.Prelude.{ℕ, ◌≡◌, ◌≤◌, ◌⊎◌, ◌==◌, Bool, true, if◌then◌else◌, List, [], ◌∷◌, ◌++◌, take, Option, Some, None, Result, Ok, Err}
 use Rattle.pc_model.specs.declared.commit.Commit.{Commit as StoredCommit}
 use Rattle.pc_model.specs.declared.event.Event.{Event}
 use Rattle.pc_model.specs.Given.{Given}
 use Rattle.pc_model.specs.Jobs.{has_ended}
-use Rattle.pc_world.specs.World.{HasRisen}
+use Rattle.pc_model.specs.Known.{commit_of}
+use Rattle.pc_model.specs.Broker.{Broker}
 use Rattle.pc_task.specs.Jobs.{PlainJob, due_outcome}
 use Rattle.pc_script.specs.declared.play.PlayAct.{PlayAct}
 use Rattle.pc_script.specs.declared.play.PlayAct.TheVariants.{Assign, Commit, Poll, Take, End, Revoke, Lose, Crash}
 use Rattle.pc_script.specs.declared.play.PlayLine.{PlayLine}
 use Rattle.pc_offset_client.specs.declared.fault.ClientFault.{ClientFault}
-use Rattle.pc_offset_client.specs.declared.fault.ClientFault.TheVariants.{LinkFailed}
+use Rattle.pc_offset_client.specs.declared.fault.ClientFault.TheVariants.{NoMemory}
 use Rattle.pc_engine.specs.declared.fault.EngineFault.{EngineFault}
 use Rattle.pc_engine.specs.declared.fault.EngineFault.TheVariants.{Closed}
 use Rattle.pc_engine.specs.declared.settled.Settled.{Settled}
 use Rattle.pc_engine.specs.declared.settled.Settled.TheVariants as settled
-use Rattle.pc_engine.specs.Effect.{assign_step, commit_step, crash_step, lose_step, poll_step, revoke_step, settle_step, take_step}
+use Rattle.pc_engine.specs.Effect.{IsFetched, IsStored, assign_refusal, assign_step, commit_refusal, commit_step, crash_step, lose_step, poll_step, revoke_refusal, revoke_step, settle_step, take_step}
 use Rattle.parcon.specs.declared.remark.Notice.{Notice}
 use Rattle.parcon.specs.declared.remark.Notice.TheVariants.{Refused, NoJob, AtEnd, Stranger}
 use Rattle.parcon.specs.declared.remark.Remark.{Remark}
@@ -140,51 +140,145 @@ abbrev pub after_line : Given → Play → PlayLine → Asked → Play
 after_line given s line asked = after_step s line.line
     (step_of given s.history s.hand line.act asked)
 
+-- ---- the link
+
+-- the link at a moment: what its broker stores, as far as that is told, and how often it has failed
+pub record Moment : Type 0 where
+  pub store : Broker
+  pub faults : ℕ
+
+abbrev pub moment : Broker → ℕ → Moment
+moment store faults = record { store = store; faults = faults }
+
+-- what the link's client answered at a line, and the link after it
+pub record Entry : Type 0 where
+  pub asked : Asked
+  pub after : Moment
+
+-- The link was asked for what it stores for the part: over a link that tells its store this is the
+-- broker's answer, and the store stays. It failed only where its count of faults rose.
+pub record Fetches (told : Bool) (p : ℕ) (before : Moment) (entry : Entry) : Type 0 where
+  pub fetched : IsFetched told before.store before.faults entry.after.faults p entry.asked
+  pub keeps : told ≡ true → entry.after.store ≡ before.store
+  pub later : before.faults ≤ entry.after.faults
+  pub answered : entry.asked ≡ Err NoMemory → ⊥
+
+-- The link was asked to store a commit for the part: over a link that tells its store it was stored
+-- or not as the broker's step says. It failed only where its count of faults rose.
+pub record Stores (told : Bool) (p : ℕ) (commit : StoredCommit) (before : Moment) (entry : Entry)
+    : Type 0 where
+  pub stored : IsStored told before.store entry.after.store before.faults entry.after.faults p commit
+      (done_by entry.asked)
+  pub later : before.faults ≤ entry.after.faults
+  pub answered : entry.asked ≡ Err NoMemory → ⊥
+
+-- a call that is refused asks nothing, and the link stays
+abbrev pub Unless : Option EngineFault → Type 0 → Moment → Moment → Type 0
+Unless (Some fault) asks before after = after ≡ before
+Unless None asks before after = asks
+
+-- what a line's call does to the link, and what it answers
+abbrev pub Asks : Bool → Given → List Event → PlayAct → Moment → Entry → Type 0
+Asks told given h (Assign p) before entry =
+    Unless (assign_refusal given h p) (Fetches told p before entry) before entry.after
+Asks told given h (Commit p) before entry =
+    Unless (commit_refusal given h p) (Stores told p (commit_of given h p).commit before entry)
+    before entry.after
+Asks told given h (Revoke p) before entry =
+    Unless (revoke_refusal given h p) (Stores told p (commit_of given h p).commit before entry)
+    before entry.after
+Asks told given h act before entry = entry.after ≡ before
+
 -- ---- all lines
 
--- where the play stands after these lines, at each of which the link did this
-unfoldable pub played : Given → Play → List PlayLine → List Asked → Play
-played given s [] asked = s
-played given s (line ∷ lines) [] = s
-played given s (line ∷ lines) (a ∷ asked) = played given (after_line given s line a) lines asked
+-- The lines lead from the one place and moment to the other, each by what the link did at it: there
+-- is an entry for each line.
+unfoldable pub Trace : Bool → Given → Play → Moment → List PlayLine → List Entry → Play → Moment
+    → Type 0
+Trace told given s m [] [] t n = (s ≡ t) × (m ≡ n)
+Trace told given s m [] (e ∷ entries) t n = ⊥
+Trace told given s m (line ∷ lines) [] t n = ⊥
+Trace told given s m (line ∷ lines) (e ∷ entries) t n =
+    Asks told given s.history line.act m e
+    × Trace told given (after_line given s line e.asked) e.after lines entries t n
 
--- the link failed only where its count of faults rose
-abbrev pub HasCause : ℕ → ℕ → Asked → Type 0
-HasCause before after asked = asked ≡ Err LinkFailed → HasRisen before after
+-- the lines lead from the one place and moment to the other
+pub record PlaysTo (told : Bool) (given : Given) (s : Play) (m : Moment) (lines : List PlayLine)
+    (t : Play) (n : Moment) : Type 0 where
+  pub entries : List Entry
+  pub trace : Trace told given s m lines entries t n
 
--- the lines lead from the one place to the other, the link having done something at each
-pub record PlaysTo (given : Given) (s : Play) (lines : List PlayLine) (before after : ℕ) (t : Play)
-    : Type 0 where
-  pub asked : List Asked
-  pub each : length asked ≡ length lines
-  pub causes : AllByRecursion (HasCause before after) asked
-  pub end : played given s lines asked ≡ t
+-- what a call leaves that ran out of memory: a told store is as before
+pub record IsAborted (told : Bool) (before after : Moment) : Type 0 where
+  pub keeps : told ≡ true → after.store ≡ before.store
+  pub later : before.faults ≤ after.faults
 
 -- ---- what the code keeps to
 
 -- a line's call with these jobs in hand came to this
-pub record Makes (given : Given) (h : List Event) (jobs : List PlainJob) (act : PlayAct)
-    (before after : ℕ) (h' : List Event) (hand : Hand) (notice : Option Notice) : Type 0 where
+pub record Comes (told : Bool) (given : Given) (h : List Event) (jobs : List PlainJob)
+    (act : PlayAct) (before after : Moment) (h' : List Event) : Type 0 where
   pub asked : Asked
-  pub cause : HasCause before after asked
+  pub asks : Asks told given h act before (record { asked = asked; after = after })
   pub events : h' ≡ (step_of given h jobs act asked).events ++ h
-  pub notice_is : notice ≡ (step_of given h jobs act asked).notice
-  pub in_hand : HasInHand given h' (step_of given h jobs act asked).hand hand
+
+-- the same, with what is to be remarked and the jobs in hand after it
+pub record Makes (told : Bool) (given : Given) (h : List Event) (jobs : List PlainJob)
+    (act : PlayAct) (before after : Moment) (h' : List Event) (hand : Hand)
+    (notice : Option Notice) : Type 0 where
+  pub comes : Comes told given h jobs act before after h'
+  pub notice_is : notice ≡ (step_of given h jobs act comes.asked).notice
+  pub in_hand : HasInHand given h' (step_of given h jobs act comes.asked).hand hand
+
+-- memory ran out at a line: its call came to something, or nothing of it is left
+abbrev pub Breaks : Bool → Given → List Event → List PlainJob → PlayAct → Moment → Moment
+    → List Event → Type 0
+Breaks told given h jobs act before after h' =
+    ((h' ≡ h) × IsAborted told before after) ⊎ Comes told given h jobs act before after h'
+
+-- what a line's call comes to with any jobs in hand, or what is left of it when out of memory
+abbrev pub Calls : {E : Type 0} → Bool → Given → List Event → PlayAct → Moment → Moment → List Event
+    → Hand → Hand → Result (Option Notice) E → Type 0
+Calls told given h act before after h' hand hand' (Ok notice) =
+    (jobs : List PlainJob) → HasInHand given h jobs hand
+    → Makes told given h jobs act before after h' hand' notice
+Calls told given h act before after h' hand hand' (Err error) =
+    (jobs : List PlainJob) → Breaks told given h jobs act before after h'
 
 -- a line led from one place to another, with other jobs in hand
-pub record LeadsTo (given : Given) (s : Play) (line : PlayLine) (before after : ℕ) (h : List Event)
-    (hand : Hand) (remarks : List Remark) : Type 0 where
+pub record LeadsTo (told : Bool) (given : Given) (s : Play) (line : PlayLine)
+    (before after : Moment) (h : List Event) (hand : Hand) (remarks : List Remark) : Type 0 where
   pub asked : Asked
-  pub cause : HasCause before after asked
+  pub asks : Asks told given s.history line.act before (record { asked = asked; after = after })
   pub jobs : List PlainJob
   pub end : after_line given s line asked
       ≡ record { history = h; hand = jobs; remarks = remarks }
   pub in_hand : HasInHand given h jobs hand
 
 -- and so did these lines
-pub record LeadTo (given : Given) (s : Play) (lines : List PlayLine) (before after : ℕ)
-    (h : List Event) (hand : Hand) (remarks : List Remark) : Type 0 where
+pub record LeadTo (told : Bool) (given : Given) (s : Play) (lines : List PlayLine)
+    (before after : Moment) (h : List Event) (hand : Hand) (remarks : List Remark) : Type 0 where
   pub jobs : List PlainJob
-  pub plays : PlaysTo given s lines before after
-      (record { history = h; hand = jobs; remarks = remarks })
+  pub plays : PlaysTo told given s before lines
+      (record { history = h; hand = jobs; remarks = remarks }) after
   pub in_hand : HasInHand given h jobs hand
+
+-- Memory ran out while these lines were played: the first of them led to this history, and of what
+-- came after them nothing is left.
+pub record StopsIn (told : Bool) (given : Given) (s : Play) (lines : List PlayLine)
+    (before after : Moment) (h : List Event) : Type 0 where
+  pub count : ℕ
+  pub play : Play
+  pub last : Moment
+  pub plays : PlaysTo told given s before (take count lines) play last
+  pub history_is : h ≡ play.history
+  pub stopped : IsAborted told last after
+
+-- what a play of these lines left: all were played, or memory ran out in it
+abbrev pub Played : {V E : Type 0} → (V → List Remark) → Bool → Given → List PlayLine → Moment
+    → Moment → List Event → Result V E → Type 0
+Played items told given lines before after h (Ok remarks) = (jobs : List PlainJob)
+    × PlaysTo told given start before lines
+    (record { history = h; hand = jobs; remarks = items remarks }) after
+Played items told given lines before after h (Err error) =
+    StopsIn told given start lines before after h

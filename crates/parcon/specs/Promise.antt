@@ -1,6 +1,5 @@
 -- The promise of the program: how a play ends, whatever its words, files, link and sink are.
-use Rattle.std.specs.Prelude.{ℕ, ◌≡◌, ◌⊎◌, Bool, true, List, [], Option, Result, refl, IsTrue, is_none}
-use Rattle.std.specs.List.{AllByRecursion}
+use Rattle.std.specs.Prelude.{ℕ, ◌≡◌, Bool, true, List, [], take, Option, Result, refl, IsTrue, is_none}
 use Rattle.pc_model.specs.declared.event.Event.{Event}
 use Rattle.pc_model.specs.declared.setup.Setup.{Setup}
 use Rattle.pc_model.specs.Defaults.{default_settings}
@@ -21,8 +20,8 @@ use Rattle.parcon.specs.declared.status.Status.TheVariants.{NoMemory}
 use Rattle.parcon.specs.Command.{files_of}
 use Rattle.parcon.specs.Reading.{AreAnswers, Reads}
 use Rattle.parcon.specs.Plan.{lines_to_play, logs_read}
-use Rattle.parcon.specs.Play.{Asked, HasCause}
-use Rattle.parcon.specs.Ending.{Ending, ending_of, output_of}
+use Rattle.parcon.specs.Play.{IsAborted, Moment, Play, PlaysTo, start}
+use Rattle.parcon.specs.Ending.{lines_in, output_of, wanted_status}
 use Rattle.parcon.specs.Written.{IsWritten}
 
 pub default_in_range : IsTrue (is_none (settings_fault default_settings))
@@ -51,10 +50,11 @@ default_setup = record {
 abbrev pub given_of : List (Option (List Record)) → Bool → Broker → Given
 given_of logs told store = given_by default_setup logs [] told (kept_for store)
 
--- the files at a moment: what they hold, as far as it is told, and how often reads have failed
+-- the files at a moment: what they hold, as far as it is told, and how often the reads of each name
+-- have failed
 pub record FilesSeen : Type 0 where
   pub contents : List ℕ → Option (List ℕ)
-  pub faults : ℕ
+  pub faults : List ℕ → ℕ
 
 -- the link and the sink at a moment: what the link's broker stores and what stands in the sink, as
 -- far as it is told, and how often each of them has failed
@@ -65,26 +65,27 @@ pub record Outside : Type 0 where
   pub written : Option (List ℕ)
   pub write_faults : ℕ
 
--- the ending of the play of these lines, or of what keeps it from beginning, by what its link did
--- from the one moment to the other
-pub record IsEnding (given : Given) (lines : Result (List PlayLine) Status) (before after : Outside)
-    (ending : Ending) : Type 0 where
-  -- what the link did at each line; it failed only where its count of faults rose
-  pub asked : List Asked
-  pub causes : AllByRecursion (HasCause before.link_faults after.link_faults) asked
-  -- the ending that this decides
-  pub decided : ending_of given lines asked ≡ ending
+-- the link alone
+abbrev pub link_at : Outside → Moment
+link_at outside = record { store = outside.store; faults = outside.link_faults }
 
--- how a play ends: with its ending, of which the journal is the history and all output is written,
--- unless the sink failed or memory ran out, and then the first bytes of the output are
+-- How a play of these lines ends, from the one moment to the other. All of its lines were played,
+-- unless memory ran out; then the first of them were, and the journal and the first bytes of the
+-- output are those of these.
 pub record Ends (given : Given) (lines : Result (List PlayLine) Status) (before after : Outside)
     (status : Status) (history : List Event) : Type 0 where
-  pub ending : Ending
-  -- for want of memory the ending may be any of that history
-  pub decided : (status ≡ NoMemory) ⊎ IsEnding given lines before after ending
-  pub history_is : history ≡ ending.play.history
+  -- how many of the lines were played, where this led, and the link after the last of them
+  pub count : ℕ
+  pub play : Play
+  pub last : Moment
+  pub plays : PlaysTo before.is_told given start (link_at before) (take count (lines_in lines)) play
+      last
+  pub history_is : history ≡ play.history
+  pub all : (status ≡ NoMemory → ⊥) → take count (lines_in lines) ≡ lines_in lines
+  pub end : (status ≡ NoMemory → ⊥) → link_at after ≡ last
+  pub stopped : IsAborted before.is_told last (link_at after)
   pub output : IsWritten before.written after.written before.write_faults after.write_faults
-      (output_of ending) ending.status status
+      (output_of (wanted_status lines) play) (wanted_status lines) status
 
 -- what a play keeps, and how it ends
 pub record Plays (given : Given) (lines : Result (List PlayLine) Status) (before after : Outside)

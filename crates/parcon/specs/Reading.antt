@@ -18,8 +18,8 @@ pub data ReadAnswer : Type 0 where
   TooLong : ReadAnswer
 
 -- an answer that may come of a file with these contents, as far as they are told, where the count
--- of faults went from the one number to the other: bytes are those that are told, a failure was
--- counted, and a file that is too long has more than 268,435,456 bytes
+-- of its own faults went from the one number to the other: bytes are those that are told, a failure
+-- was counted, and a file that is too long has more than 268,435,456 bytes
 abbrev pub IsAnswer : Option (List ℕ) → ℕ → ℕ → ReadAnswer → Type 0
 IsAnswer told before after (Bytes bytes) =
     (length bytes ≤ 268_435_456) × ((contents : List ℕ) → told ≡ Some contents → bytes ≡ contents)
@@ -40,15 +40,16 @@ pub record Reads : Type 0 where
 
 -- the answers that may come of the reads of logs with these names
 pub record AreLogAnswers (names : List (List ℕ)) (told : List ℕ → Option (List ℕ))
-    (before after : ℕ) (reads : List FileRead) : Type 0 where
+    (before after : List ℕ → ℕ) (reads : List FileRead) : Type 0 where
   pub named : map (λ read. read.name) reads ≡ names
-  pub each : AllByRecursion (λ read. IsAnswer (told read.name) before after read.answer) reads
+  pub each : AllByRecursion
+      (λ read. IsAnswer (told read.name) (before read.name) (after read.name) read.answer) reads
 
 -- the answers that may come of the reads of a play's files
-pub record AreAnswers (files : PlayFiles) (told : List ℕ → Option (List ℕ)) (before after : ℕ)
-    (reads : Reads) : Type 0 where
+pub record AreAnswers (files : PlayFiles) (told : List ℕ → Option (List ℕ))
+    (before after : List ℕ → ℕ) (reads : Reads) : Type 0 where
   pub logs : AreLogAnswers files.logs told before after reads.logs
-  pub script : IsAnswer (told files.script) before after reads.script
+  pub script : IsAnswer (told files.script) (before files.script) (after files.script) reads.script
 
 -- ---- the bytes that they gave
 
@@ -128,15 +129,15 @@ pub record IsFromLog (name : List ℕ) (told : Option (List ℕ)) (before after 
   pub text : log_answered used (record { name = name; answer = answer }) ≡ got
 
 -- the same of the reads of all logs
-pub record IsFromLogs (names : List (List ℕ)) (told : List ℕ → Option (List ℕ)) (before after : ℕ)
-    (got : Result (List FileText) Status) : Type 0 where
+pub record IsFromLogs (names : List (List ℕ)) (told : List ℕ → Option (List ℕ))
+    (before after : List ℕ → ℕ) (got : Result (List FileText) Status) : Type 0 where
   pub reads : List FileRead
   pub answers : AreLogAnswers names told before after reads
   pub texts : logs_answered 0 reads ≡ got
 
 -- the same of the reads of all files that the words name
-pub record IsFromFiles (words : List (List ℕ)) (told : List ℕ → Option (List ℕ)) (before after : ℕ)
-    (got : Result FileTexts Status) : Type 0 where
+pub record IsFromFiles (words : List (List ℕ)) (told : List ℕ → Option (List ℕ))
+    (before after : List ℕ → ℕ) (got : Result FileTexts Status) : Type 0 where
   pub reads : Reads
   pub answers : AreAnswers (files_of words) told before after reads
   pub texts : files_answered words reads ≡ got

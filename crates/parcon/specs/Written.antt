@@ -23,11 +23,12 @@ pub record IsOnItsWay (before now : Option (List ℕ)) (buffer text : List ℕ) 
   pub whole : front ++ buffer ≡ text
   pub appended : now ≡ with_bytes before front
 
--- a text that was to be written with a status: it stands there whole and the status is that one,
--- or its first bytes do, the sink having failed or memory having run out
+-- A text that was to be written with a status: it stands there whole, the status is that one and no
+-- write failed; or its first bytes do, a write having failed or memory having run out.
 pub record IsWritten (before after : Option (List ℕ)) (faults_before faults_after : ℕ)
     (text : List ℕ) (wanted given : Status) : Type 0 where
-  pub status : (given ≡ wanted) ⊎ ((given ≡ SinkFault) × HasRisen faults_before faults_after)
+  pub status : ((given ≡ wanted) × (faults_after ≡ faults_before))
+      ⊎ ((given ≡ SinkFault) × HasRisen faults_before faults_after)
       ⊎ (given ≡ NoMemory)
   pub front : HasFront before after text
   pub whole : given ≡ wanted → after ≡ with_bytes before text

@@ -1,6 +1,6 @@
 //! The calls of the engine, one for each line of a script, and what is to be remarked of each.
 
-ghost use Rattle.std.specs.Prelude.{◌≡◌, ◌≤◌, ◌<◌, ◌++◌, ℕ, List, true, IfOk, Some, Ok};
+ghost use Rattle.std.specs.Prelude.{◌≡◌, ◌≤◌, ◌<◌, ◌++◌, ℕ, List, true, IfOk, MatchResult, OnErr, Some, Ok};
 ghost use Rattle.pc_model.specs.Given.{has_log};
 ghost use Rattle.pc_script.specs.PlayScript.{IsPlayable};
 ghost use Rattle.pc_script.specs.declared.play.PlayAct.TheVariants.{Assign, Commit, Poll, Take, End, Revoke, Lose, Crash};
@@ -9,8 +9,7 @@ ghost use Rattle.pc_engine.specs.declared.fault.EngineFault.TheVariants.{NoMemor
 ghost use Rattle.pc_engine.specs.Effect.{IsExpected, StoresOnly};
 ghost use Rattle.parcon.specs.declared.hand.Hand.{Hand};
 ghost use Rattle.parcon.specs.declared.remark.Notice.TheVariants.{Refused};
-ghost use Rattle.parcon.specs.Hand.{HasInHand};
-ghost use Rattle.parcon.specs.Play.{Makes, end_job, poll_notice, settled_notice};
+ghost use Rattle.parcon.specs.Play.{Calls, end_job, moment, poll_notice, settled_notice};
 
 use crate::hand::Hand;
 use crate::remark::Notice;
@@ -29,11 +28,11 @@ pub(crate) fn call<'a, L: Link>(
     act: PlayAct,
 ) -> Result<Option<Notice>, AllocError>
     requires { IsPlayable act }
-    ensures makes { IfOk result (λ notice. (jobs : List PlainJob)
-        → HasInHand engine.old.given engine.old.journal.events jobs hand.old
-        → Makes engine.old.given engine.old.journal.events jobs act
-        (L.faults engine.old.link) (L.faults engine.new.link) engine.new.journal.events hand.new
-        notice) }
+    ensures effect { Calls (L.is_told engine.old.link) engine.old.given engine.old.journal.events
+        act
+        (moment (L.store engine.old.link) (L.faults engine.old.link))
+        (moment (L.store engine.new.link) (L.faults engine.new.link))
+        engine.new.journal.events hand.old hand.new result }
     ensures keeps { L.is_told engine.old.link ≡ true → StoresOnly (has_log engine.old.given)
         (L.store engine.old.link) (L.store engine.new.link) }
     ensures given { engine.new.given ≡ engine.old.given }
@@ -55,11 +54,11 @@ pub(crate) fn call<'a, L: Link>(
 
 /// Assigns a part.
 fn assign<L: Link>(engine: &mut Engine<'_, L>, part: u32) -> Result<Option<Notice>, AllocError>
-    ensures makes { IfOk result (λ notice. (jobs : List PlainJob) (hand : Hand)
-        → HasInHand engine.old.given engine.old.journal.events jobs hand
-        → Makes engine.old.given engine.old.journal.events jobs (Assign part)
-        (L.faults engine.old.link) (L.faults engine.new.link) engine.new.journal.events hand
-        notice) }
+    ensures effect { (hand : Hand) → Calls (L.is_told engine.old.link) engine.old.given
+        engine.old.journal.events (Assign part)
+        (moment (L.store engine.old.link) (L.faults engine.old.link))
+        (moment (L.store engine.new.link) (L.faults engine.new.link))
+        engine.new.journal.events hand hand result }
     ensures keeps { L.is_told engine.old.link ≡ true → StoresOnly (has_log engine.old.given)
         (L.store engine.old.link) (L.store engine.new.link) }
     ensures given { engine.new.given ≡ engine.old.given }
@@ -74,11 +73,11 @@ fn assign<L: Link>(engine: &mut Engine<'_, L>, part: u32) -> Result<Option<Notic
 
 /// Commits a part.
 fn commit<L: Link>(engine: &mut Engine<'_, L>, part: u32) -> Result<Option<Notice>, AllocError>
-    ensures makes { IfOk result (λ notice. (jobs : List PlainJob) (hand : Hand)
-        → HasInHand engine.old.given engine.old.journal.events jobs hand
-        → Makes engine.old.given engine.old.journal.events jobs (Commit part)
-        (L.faults engine.old.link) (L.faults engine.new.link) engine.new.journal.events hand
-        notice) }
+    ensures effect { (hand : Hand) → Calls (L.is_told engine.old.link) engine.old.given
+        engine.old.journal.events (Commit part)
+        (moment (L.store engine.old.link) (L.faults engine.old.link))
+        (moment (L.store engine.new.link) (L.faults engine.new.link))
+        engine.new.journal.events hand hand result }
     ensures keeps { L.is_told engine.old.link ≡ true → StoresOnly (has_log engine.old.given)
         (L.store engine.old.link) (L.store engine.new.link) }
     ensures given { engine.new.given ≡ engine.old.given }
@@ -98,11 +97,11 @@ fn poll<L: Link>(
     max: u32,
 ) -> Result<Option<Notice>, AllocError>
     requires { IsPlayable (Poll part max) }
-    ensures makes { IfOk result (λ notice. (jobs : List PlainJob) (hand : Hand)
-        → HasInHand engine.old.given engine.old.journal.events jobs hand
-        → Makes engine.old.given engine.old.journal.events jobs (Poll part max)
-        (L.faults engine.old.link) (L.faults engine.new.link) engine.new.journal.events hand
-        notice) }
+    ensures effect { (hand : Hand) → Calls (L.is_told engine.old.link) engine.old.given
+        engine.old.journal.events (Poll part max)
+        (moment (L.store engine.old.link) (L.faults engine.old.link))
+        (moment (L.store engine.new.link) (L.faults engine.new.link))
+        engine.new.journal.events hand hand result }
     ensures given { engine.new.given ≡ engine.old.given }
     ensures link { engine.new.link ≡ engine.old.link }
 {
@@ -130,11 +129,11 @@ fn take<'a, L: Link>(
     worker: u32,
 ) -> Result<Option<Notice>, AllocError>
     requires { worker < 256 }
-    ensures makes { IfOk result (λ notice. (jobs : List PlainJob)
-        → HasInHand engine.old.given engine.old.journal.events jobs hand.old
-        → Makes engine.old.given engine.old.journal.events jobs (Take worker)
-        (L.faults engine.old.link) (L.faults engine.new.link) engine.new.journal.events hand.new
-        notice) }
+    ensures effect { Calls (L.is_told engine.old.link) engine.old.given engine.old.journal.events
+        (Take worker)
+        (moment (L.store engine.old.link) (L.faults engine.old.link))
+        (moment (L.store engine.new.link) (L.faults engine.new.link))
+        engine.new.journal.events hand.old hand.new result }
     ensures given { engine.new.given ≡ engine.old.given }
     ensures link { engine.new.link ≡ engine.old.link }
 {
@@ -155,11 +154,11 @@ fn end<'a, L: Link>(
     hand: &mut Hand<'a>,
     ticket: u64,
 ) -> Result<Option<Notice>, AllocError>
-    ensures makes { IfOk result (λ notice. (jobs : List PlainJob)
-        → HasInHand engine.old.given engine.old.journal.events jobs hand.old
-        → Makes engine.old.given engine.old.journal.events jobs (End ticket)
-        (L.faults engine.old.link) (L.faults engine.new.link) engine.new.journal.events hand.new
-        notice) }
+    ensures effect { Calls (L.is_told engine.old.link) engine.old.given engine.old.journal.events
+        (End ticket)
+        (moment (L.store engine.old.link) (L.faults engine.old.link))
+        (moment (L.store engine.new.link) (L.faults engine.new.link))
+        engine.new.journal.events hand.old hand.new result }
     ensures given { engine.new.given ≡ engine.old.given }
     ensures link { engine.new.link ≡ engine.old.link }
 {
@@ -181,6 +180,7 @@ fn settle<'a, L: Link>(
         (plain_job job.entry) in
         (engine.new.journal.events ≡ step.events ++ engine.old.journal.events)
         × (notice ≡ step.notice)) }
+    ensures stays { OnErr result (engine.new.journal.events ≡ engine.old.journal.events) }
     ensures given { engine.new.given ≡ engine.old.given }
     ensures link { engine.new.link ≡ engine.old.link }
 {
@@ -206,11 +206,11 @@ fn settled(settled: Settled<'_>) -> Option<Notice>
 
 /// Gives a part back. Where its commit failed, the events say so.
 fn revoke<L: Link>(engine: &mut Engine<'_, L>, part: u32) -> Result<Option<Notice>, AllocError>
-    ensures makes { IfOk result (λ notice. (jobs : List PlainJob) (hand : Hand)
-        → HasInHand engine.old.given engine.old.journal.events jobs hand
-        → Makes engine.old.given engine.old.journal.events jobs (Revoke part)
-        (L.faults engine.old.link) (L.faults engine.new.link) engine.new.journal.events hand
-        notice) }
+    ensures effect { (hand : Hand) → Calls (L.is_told engine.old.link) engine.old.given
+        engine.old.journal.events (Revoke part)
+        (moment (L.store engine.old.link) (L.faults engine.old.link))
+        (moment (L.store engine.new.link) (L.faults engine.new.link))
+        engine.new.journal.events hand hand result }
     ensures keeps { L.is_told engine.old.link ≡ true → StoresOnly (has_log engine.old.given)
         (L.store engine.old.link) (L.store engine.new.link) }
     ensures given { engine.new.given ≡ engine.old.given }
@@ -225,11 +225,11 @@ fn revoke<L: Link>(engine: &mut Engine<'_, L>, part: u32) -> Result<Option<Notic
 
 /// Loses a part.
 fn lose<L: Link>(engine: &mut Engine<'_, L>, part: u32) -> Result<Option<Notice>, AllocError>
-    ensures makes { IfOk result (λ notice. (jobs : List PlainJob) (hand : Hand)
-        → HasInHand engine.old.given engine.old.journal.events jobs hand
-        → Makes engine.old.given engine.old.journal.events jobs (Lose part)
-        (L.faults engine.old.link) (L.faults engine.new.link) engine.new.journal.events hand
-        notice) }
+    ensures effect { (hand : Hand) → Calls (L.is_told engine.old.link) engine.old.given
+        engine.old.journal.events (Lose part)
+        (moment (L.store engine.old.link) (L.faults engine.old.link))
+        (moment (L.store engine.new.link) (L.faults engine.new.link))
+        engine.new.journal.events hand hand result }
     ensures given { engine.new.given ≡ engine.old.given }
     ensures link { engine.new.link ≡ engine.old.link }
 {
@@ -241,11 +241,11 @@ fn lose<L: Link>(engine: &mut Engine<'_, L>, part: u32) -> Result<Option<Notice>
 
 /// Lets the engine crash. The jobs in hand stay there.
 fn crash<L: Link>(engine: &mut Engine<'_, L>) -> Result<Option<Notice>, AllocError>
-    ensures makes { IfOk result (λ notice. (jobs : List PlainJob) (hand : Hand)
-        → HasInHand engine.old.given engine.old.journal.events jobs hand
-        → Makes engine.old.given engine.old.journal.events jobs Crash
-        (L.faults engine.old.link) (L.faults engine.new.link) engine.new.journal.events hand
-        notice) }
+    ensures effect { (hand : Hand) → Calls (L.is_told engine.old.link) engine.old.given
+        engine.old.journal.events Crash
+        (moment (L.store engine.old.link) (L.faults engine.old.link))
+        (moment (L.store engine.new.link) (L.faults engine.new.link))
+        engine.new.journal.events hand hand result }
     ensures given { engine.new.given ≡ engine.old.given }
     ensures link { engine.new.link ≡ engine.old.link }
 {
@@ -257,7 +257,9 @@ fn crash<L: Link>(engine: &mut Engine<'_, L>) -> Result<Option<Notice>, AllocErr
 
 /// A refusal, which is to be remarked unless memory was wanting.
 fn refused(fault: EngineFault) -> Result<Option<Notice>, AllocError>
-    ensures { IfOk result (λ notice. (fault ≡ NoMemory → ⊥) × (notice ≡ Some (Refused fault))) }
+    ensures { MatchResult result
+        (λ notice. (fault ≡ NoMemory → ⊥) × (notice ≡ Some (Refused fault)))
+        (λ _. fault ≡ NoMemory) }
 {
     match fault {
         EngineFault::NoMemory => Err(AllocError),

@@ -52,6 +52,7 @@ fn write_all<O: Sink>(out: &mut O, bytes: &[u8]) -> Result<(), SinkFailed>
     ensures whole { OnOk result (O.written out.new ≡ with_bytes (O.written out.old) bytes.now) }
     ensures front { HasFront (O.written out.old) (O.written out.new) bytes.now }
     ensures failed { OnErr result (HasRisen (O.faults out.old) (O.faults out.new)) }
+    ensures unfailed { OnOk result (O.faults out.new ≡ O.faults out.old) }
     ensures count { O.faults out.old ≤ O.faults out.new }
 {
     let mut rest = bytes;
@@ -72,6 +73,7 @@ fn flush<O: Sink>(out: &mut O, buffer: &mut Vec<u8>) -> Result<(), SinkFailed>
         → IsOnItsWay before (O.written out.old) buffer.old.items text
         → HasFront before (O.written out.new) text }
     ensures failed { OnErr result (HasRisen (O.faults out.old) (O.faults out.new)) }
+    ensures unfailed { OnOk result (O.faults out.new ≡ O.faults out.old) }
     ensures count { O.faults out.old ≤ O.faults out.new }
 {
     write_all(out, buffer.as_slice())?;
@@ -88,6 +90,7 @@ fn flush_long<O: Sink>(out: &mut O, buffer: &mut Vec<u8>) -> Result<(), SinkFail
         → IsOnItsWay before (O.written out.old) buffer.old.items text
         → OnErr result (HasFront before (O.written out.new) text) }
     ensures failed { OnErr result (HasRisen (O.faults out.old) (O.faults out.new)) }
+    ensures unfailed { OnOk result (O.faults out.new ≡ O.faults out.old) }
     ensures count { O.faults out.old ≤ O.faults out.new }
 {
     if buffer.len() < LONG {
@@ -111,6 +114,7 @@ fn put_events<O: Sink>(
         → OnErr result (HasFront before (O.written out.new)
         (text ++ flat_map line_of events.now)) }
     ensures failed { result ≡ Err Failed → HasRisen (O.faults out.old) (O.faults out.new) }
+    ensures unfailed { OnOk result (O.faults out.new ≡ O.faults out.old) }
     ensures count { O.faults out.old ≤ O.faults out.new }
 {
     for event in events {
@@ -135,6 +139,7 @@ fn put_remarks<O: Sink>(
         → OnErr result (HasFront before (O.written out.new)
         (text ++ flat_map remark_line remarks.now)) }
     ensures failed { result ≡ Err Failed → HasRisen (O.faults out.old) (O.faults out.new) }
+    ensures unfailed { OnOk result (O.faults out.new ≡ O.faults out.old) }
     ensures count { O.faults out.old ≤ O.faults out.new }
 {
     for remark in remarks {
@@ -156,6 +161,7 @@ fn put_play<O: Sink>(
     ensures front { HasFront (O.written out.old) (O.written out.new)
         (text_with journal.now.events remarks.now) }
     ensures failed { result ≡ Err Failed → HasRisen (O.faults out.old) (O.faults out.new) }
+    ensures unfailed { OnOk result (O.faults out.new ≡ O.faults out.old) }
     ensures count { O.faults out.old ≤ O.faults out.new }
 {
     let mut buffer = Vec::new(alloc);
@@ -171,6 +177,7 @@ fn put_status<O: Sink>(alloc: Global, out: &mut O, status: &Status) -> Result<()
         (O.written out.new ≡ with_bytes (O.written out.old) (fault_line status.now)) }
     ensures front { HasFront (O.written out.old) (O.written out.new) (fault_line status.now) }
     ensures failed { result ≡ Err Failed → HasRisen (O.faults out.old) (O.faults out.new) }
+    ensures unfailed { OnOk result (O.faults out.new ≡ O.faults out.old) }
     ensures count { O.faults out.old ≤ O.faults out.new }
 {
     let mut line = Vec::new(alloc);

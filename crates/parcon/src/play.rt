@@ -1,6 +1,6 @@
 //! The play: one call of the engine for each line of a script.
 
-ghost use Rattle.std.specs.Prelude.{◌≡◌, ◌≤◌, List, true, [], OnOk, IfOk, IsErr};
+ghost use Rattle.std.specs.Prelude.{◌≡◌, ◌≤◌, List, true, [], OnErr, OnOk, IsErr};
 ghost use Rattle.pc_model.specs.Given.{has_log};
 ghost use Rattle.pc_model.specs.declared.choices.Order.TheVariants.{None as NoOrder};
 ghost use Rattle.pc_script.specs.PlayScript.{ArePlayable, IsPlayable};
@@ -9,7 +9,7 @@ ghost use Rattle.pc_task.specs.Jobs.{PlainJob};
 ghost use Rattle.pc_engine.specs.Effect.{StoresOnly};
 ghost use Rattle.pc_engine.specs.Engine.{given_by};
 ghost use Rattle.parcon.specs.Hand.{HasInHand};
-ghost use Rattle.parcon.specs.Play.{LeadTo, LeadsTo, PlaysTo, start};
+ghost use Rattle.parcon.specs.Play.{Breaks, LeadTo, LeadsTo, Played, StopsIn, moment};
 ghost use Rattle.parcon.specs.Promise.{IsKept};
 
 use crate::calls::call;
@@ -41,12 +41,19 @@ fn play_line<'a, L: Link>(
     requires { IsPlayable line.now.act }
     ensures ok { OnOk result ((jobs : List PlainJob)
         → HasInHand engine.old.given engine.old.journal.events jobs hand.old
-        → LeadsTo engine.old.given (record {
+        → LeadsTo (L.is_told engine.old.link) engine.old.given (record {
           history = engine.old.journal.events;
           hand = jobs;
           remarks = remarks.old.items;
-        }) line.now (L.faults engine.old.link) (L.faults engine.new.link)
+        }) line.now (moment (L.store engine.old.link) (L.faults engine.old.link))
+        (moment (L.store engine.new.link) (L.faults engine.new.link))
         engine.new.journal.events hand.new remarks.new.items) }
+    ensures err { OnErr result ((jobs : List PlainJob)
+        → HasInHand engine.old.given engine.old.journal.events jobs hand.old
+        → Breaks (L.is_told engine.old.link) engine.old.given engine.old.journal.events jobs
+        line.now.act (moment (L.store engine.old.link) (L.faults engine.old.link))
+        (moment (L.store engine.new.link) (L.faults engine.new.link))
+        engine.new.journal.events) }
     ensures keeps { L.is_told engine.old.link ≡ true → StoresOnly (has_log engine.old.given)
         (L.store engine.old.link) (L.store engine.new.link) }
     ensures given { engine.new.given ≡ engine.old.given }
@@ -72,12 +79,22 @@ fn play_lines<'a, L: Link>(
     requires { ArePlayable lines.now }
     ensures ok { OnOk result ((jobs : List PlainJob)
         → HasInHand engine.old.given engine.old.journal.events jobs hand.old
-        → LeadTo engine.old.given (record {
+        → LeadTo (L.is_told engine.old.link) engine.old.given (record {
           history = engine.old.journal.events;
           hand = jobs;
           remarks = remarks.old.items;
-        }) lines.now (L.faults engine.old.link) (L.faults engine.new.link)
+        }) lines.now (moment (L.store engine.old.link) (L.faults engine.old.link))
+        (moment (L.store engine.new.link) (L.faults engine.new.link))
         engine.new.journal.events hand.new remarks.new.items) }
+    ensures err { OnErr result ((jobs : List PlainJob)
+        → HasInHand engine.old.given engine.old.journal.events jobs hand.old
+        → StopsIn (L.is_told engine.old.link) engine.old.given (record {
+          history = engine.old.journal.events;
+          hand = jobs;
+          remarks = remarks.old.items;
+        }) lines.now (moment (L.store engine.old.link) (L.faults engine.old.link))
+        (moment (L.store engine.new.link) (L.faults engine.new.link))
+        engine.new.journal.events) }
     ensures keeps { L.is_told engine.old.link ≡ true → StoresOnly (has_log engine.old.given)
         (L.store engine.old.link) (L.store engine.new.link) }
     ensures given { engine.new.given ≡ engine.old.given }
@@ -96,10 +113,10 @@ fn play_on<L: Link>(alloc: Global, mut engine: Engine<'_, L>, lines: &[PlayLine]
     requires playable { ArePlayable lines.now }
     ensures kept { IsKept engine.entry.given (L.store engine.entry.link) (L.store result.link)
         result.journal.events }
-    ensures played { IfOk result.remarks (λ remarks. (jobs : List PlainJob)
-        × PlaysTo engine.entry.given start lines.now
-        (L.faults engine.entry.link) (L.faults result.link)
-        (record { history = result.journal.events; hand = jobs; remarks = remarks.items })) }
+    ensures played { Played (λ remarks. remarks.items) (L.is_told engine.entry.link)
+        engine.entry.given lines.now
+        (moment (L.store engine.entry.link) (L.faults engine.entry.link))
+        (moment (L.store result.link) (L.faults result.link)) result.journal.events result.remarks }
 {
     let mut hand = Hand::new(alloc);
     let mut remarks = Vec::new(alloc);
@@ -143,9 +160,9 @@ pub(crate) fn play<L: Link>(
     ensures kept { let given = given_by setup.now logs.now [] (L.is_told link) (kept_for (L.store link)) in
         IsKept given (L.store link) (L.store result.link) result.journal.events }
     ensures played { let given = given_by setup.now logs.now [] (L.is_told link) (kept_for (L.store link)) in
-        IfOk result.remarks (λ remarks. (jobs : List PlainJob)
-        × PlaysTo given start lines.now (L.faults link) (L.faults result.link)
-        (record { history = result.journal.events; hand = jobs; remarks = remarks.items })) }
+        Played (λ remarks. remarks.items) (L.is_told link) given lines.now
+        (moment (L.store link) (L.faults link))
+        (moment (L.store result.link) (L.faults result.link)) result.journal.events result.remarks }
 {
     match Engine::start(alloc, setup, logs, link) {
         Ok(engine) => play_on(alloc, engine, lines),
@@ -157,7 +174,7 @@ pub(crate) fn play<L: Link>(
 fn unplayed<L: Link>(alloc: Global, link: L) -> Played<L>
     ensures link { result.link ≡ link }
     ensures journal { result.journal.events ≡ [] }
-    ensures remarks { IsErr result.remarks }
+    ensures remarks { result.remarks ≡ Err AllocError }
 {
     Played {
         remarks: Err(AllocError),

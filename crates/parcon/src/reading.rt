@@ -60,7 +60,7 @@ fn read_logs<'a, F: Files>(
         (result_map_both (λ logs. map text_of logs.items) (λ s. s) result) }
     ensures many { IfOk result (λ logs. length logs.items ≡ length names.now) }
     ensures keeps { (n : List ℕ) → F.told files.new n ≡ F.told files.old n }
-    ensures count { F.faults files.old ≤ F.faults files.new }
+    ensures count { (n : List ℕ) → F.faults files.old n ≤ F.faults files.new n }
 {
     let mut logs = Vec::new(alloc);
     let mut used = 0;
@@ -81,10 +81,11 @@ fn read_log<'a, F: Files>(
 ) -> Result<LogText<'a>, Status>
     requires { used ≤ LOG_BYTES_MAX }
     ensures text { (result ≡ Err NoMemory) ⊎ IsFromLog name.now (F.told files.old name.now)
-        (F.faults files.old) (F.faults files.new) used (result_map_both text_of (λ s. s) result) }
+        (F.faults files.old name.now) (F.faults files.new name.now) used
+        (result_map_both text_of (λ s. s) result) }
     ensures fits { IfOk result (λ log. used + length log.bytes.items ≤ LOG_BYTES_MAX) }
     ensures keeps { (n : List ℕ) → F.told files.new n ≡ F.told files.old n }
-    ensures count { F.faults files.old ≤ F.faults files.new }
+    ensures count { (n : List ℕ) → F.faults files.old n ≤ F.faults files.new n }
 {
     let bytes = read(alloc, files, name)?;
     let bytes = within(used, bytes)?;
@@ -110,10 +111,10 @@ fn within(used: u64, bytes: Vec<u8>) -> Result<Vec<u8>, Status>
 /// The bytes of a file.
 fn read<F: Files>(alloc: Global, files: &mut F, name: &str) -> Result<Vec<u8>, Status>
     ensures answer { (result ≡ Err NoMemory) ⊎ IsFromFile name.now (F.told files.old name.now)
-        (F.faults files.old) (F.faults files.new)
+        (F.faults files.old name.now) (F.faults files.new name.now)
         (result_map_both (λ bytes. bytes.items) (λ s. s) result) }
     ensures keeps { (n : List ℕ) → F.told files.new n ≡ F.told files.old n }
-    ensures count { F.faults files.old ≤ F.faults files.new }
+    ensures count { (n : List ℕ) → F.faults files.old n ≤ F.faults files.new n }
 {
     let mut bytes = Vec::new(alloc);
     match files.read(name, &mut bytes) {

@@ -17,11 +17,12 @@ use Rattle.pc_model.specs.Broker.{Broker}
 use Rattle.pc_laws.specs.Lists.{In}
 use Rattle.pc_laws.proofs.Lists.{In-append_left, In-append_right, true-not-false}
 use Rattle.pc_offset_client.specs.declared.fault.ClientFault.{ClientFault}
+use Rattle.pc_offset_client.specs.declared.fault.ClientFault.TheVariants as client
 use Rattle.pc_offset_client.specs.Client.{CommitGives}
 use Rattle.pc_engine.specs.declared.engine.Committed.{Committed as Receipt}
 use Rattle.pc_engine.specs.declared.fault.EngineFault.TheVariants.{Client}
 use Rattle.pc_engine.specs.declared.state.State.{State}
-use Rattle.pc_engine.specs.Effect.{Does, commit_refusal, commit_step}
+use Rattle.pc_engine.specs.Effect.{Does, Step, commit_refusal, commit_step, commit_with}
 use Rattle.pc_engine.specs.Engine.{IsEngine, first_assigned}
 use Rattle.pc_engine.specs.State.{Knows, MayCome}
 use Rattle.pc_engine.proofs.EngineEvents.{room-limit}
@@ -47,6 +48,15 @@ given-commit new h v told kept kept' p held quiet others =
           (ap (unwrap_or (first_assigned h q))
           (others is q (λ (e : q ≡ p). true-not-false (q == p) (eq-eqb q p e) apart)))
     ]
+
+-- a commit that failed for another cause than memory
+pub commit_with-failed : (p : ℕ) (c : SizedCommit) (f : ClientFault) → (f ≡ client.NoMemory → ⊥)
+    → commit_with p c (Err f) ≡ record {
+      answer = Err (Client f);
+      events = CommitFailed p c.commit.position c.commit.map c.size ∷ [];
+    }
+commit_with-failed p c client.NoMemory lasts = absurd (lasts refl)
+commit_with-failed p c f lasts = refl
 
 module _ (state : State) (h : List Event) (told : Bool) (kept : ℕ → Commit) (room : ℕ)
     (keeps : IsEngine (given_to state h told kept) kept state room h) (p : ℕ)
@@ -180,6 +190,8 @@ module _ (state : State) (h : List Event) (told : Bool) (kept : ℕ → Commit) 
               room = omega (arith, less);
             }))
 
-        pub failed-does : (f : ClientFault) → Does {A = Receipt} (Err (Client f))
-            (commit_step given h p (Err f)) h h'
-        failed-does f = rw (none, ← is_commit) (refl, after)
+        pub failed-does : (f : ClientFault) → (f ≡ client.NoMemory → ⊥)
+            → Does {A = Receipt} (Err (Client f)) (commit_step given h p (Err f)) h h'
+        failed-does f lasts = rw (none, ← is_commit)
+            (subst (λ (x : Step Receipt). Does {A = Receipt} (Err (Client f)) x h h')
+            (sym (commit_with-failed p sized f lasts)) (refl, after))

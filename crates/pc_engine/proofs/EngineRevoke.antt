@@ -19,7 +19,7 @@ use Rattle.pc_engine.specs.declared.engine.Committed.{Committed as Receipt}
 use Rattle.pc_engine.specs.declared.fault.EngineFault.{EngineFault}
 use Rattle.pc_engine.specs.declared.fault.EngineFault.TheVariants.{Client, NoMemory}
 use Rattle.pc_engine.specs.declared.state.State.{State}
-use Rattle.pc_engine.specs.Effect.{Does, IsStored, commit_after, commit_refusal, commit_step, commit_with, failed_of, failure_of, held_refusal, is_full, refused_by, refuses, revoke_after, revoke_step}
+use Rattle.pc_engine.specs.Effect.{Does, IsStored, Step, commit_after, commit_refusal, commit_step, commit_with, failed_of, failure_of, held_refusal, is_full, refused_by, refuses, revoke_after, revoke_step, revoke_with}
 use Rattle.pc_engine.specs.Engine.{IsEngine}
 use Rattle.pc_engine.specs.State.{Knows, MayCome}
 use Rattle.pc_engine.proofs.EngineEvents.{room-limit}
@@ -71,9 +71,10 @@ unmade None given h h' p outcome (Ok receipt) f none is does = cc
 unmade None given h h' p outcome (Err NoMemory) f none is does = (cc, does)
 unmade None given h h' p (Ok done) (Err fault) f none is does = cc
 unmade None given h h' p (Err failed) (Err (Client x)) f none is does = cc
+unmade None given h h' p (Err client.NoMemory) (Err fault) f none is does = cc
 unmade None given h h' p (Err failed) (Err fault) f none is does = cc
 
--- of one that was made the event stands
+-- of one that was made the event stands, and the client did not run out of memory
 made : (o : Option EngineFault) (given : Given) (h h' : List Event) (p : ℕ)
     (outcome : Result (Unit {0}) ClientFault) (stored : Result Receipt EngineFault)
     (failed : Option ClientFault) → o ≡ None
@@ -81,13 +82,27 @@ made : (o : Option EngineFault) (given : Given) (h h' : List Event) (p : ℕ)
     → Does stored (commit_after given h p outcome o) h h'
     → (failed ≡ failed_of outcome)
     × (h' ≡ (commit_with p (commit_of given h p) outcome).events ++ h)
+    × (outcome ≡ Err client.NoMemory → ⊥)
 made (Some g) given h h' p outcome stored failed none is does = cc
-made None given h h' p (Ok done) (Ok receipt) failed none is does = (cc, does.1)
+made None given h h' p (Ok done) (Ok receipt) failed none is does = (cc, does.1, λ forgot. cc)
+made None given h h' p (Err client.NoMemory) (Ok receipt) failed none is does = cc
 made None given h h' p (Err x) (Ok receipt) failed none is does = cc
 made None given h h' p outcome (Err NoMemory) failed none is does = cc
 made None given h h' p (Ok done) (Err (Client y)) failed none is does = cc
-made None given h h' p (Err x) (Err (Client y)) failed none is does = (cc, does.1)
+made None given h h' p (Err client.NoMemory) (Err (Client y)) failed none is does = cc
+made None given h h' p (Err x) (Err (Client y)) failed none is does = (cc, does.1, λ forgot. cc)
 made None given h h' p outcome (Err fault) failed none is does = cc
+
+-- the step of a revocation whose commit was made
+revoke_with-made : (h : List Event) (p : ℕ) (c : SizedCommit)
+    (outcome : Result (Unit {0}) ClientFault) → (outcome ≡ Err client.NoMemory → ⊥)
+    → revoke_with h p c outcome ≡ record {
+      answer = Ok (failed_of outcome);
+      events = Revoke p (epoch_of h p) ∷ (commit_with p c outcome).events;
+    }
+revoke_with-made h p c (Ok done) lasts = refl
+revoke_with-made h p c (Err client.NoMemory) lasts = absurd (lasts refl)
+revoke_with-made h p c (Err failed) lasts = refl
 
 -- and where it was made there is a place less
 pub made-room : (stored : Result Receipt EngineFault) (failed : Option ClientFault) (a b : ℕ)
@@ -105,15 +120,16 @@ record Adds (p : ℕ) (h h' : List Event) : Type 0 where
   jobs : open_jobs h' ≡ open_jobs h
 
 adds : (p : ℕ) (c : SizedCommit) (outcome : Result (Unit {0}) ClientFault) (h : List Event)
-    → Adds p h ((commit_with p c outcome).events ++ h)
-adds p c (Ok done) h = record {
+    → (outcome ≡ Err client.NoMemory → ⊥) → Adds p h ((commit_with p c outcome).events ++ h)
+adds p c (Ok done) h lasts = record {
   last = same_number p;
   held = refl;
   epoch = refl;
   count = omega arith;
   jobs = refl;
 }
-adds p c (Err failed) h = record {
+adds p c (Err client.NoMemory) h lasts = absurd (lasts refl)
+adds p c (Err failed) h lasts = record {
   last = same_number p;
   held = refl;
   epoch = refl;
@@ -184,11 +200,12 @@ module _ (given : Given) (h h2 : List Event) (p : ℕ) (told : Bool) (b b' : Bro
     (stores : Stores told b b' n n' p given h stored h2) where
   stands : (failed ≡ failed_of stores.0)
       × (h2 ≡ (commit_with p (commit_of given h p) stores.0).events ++ h)
+      × (stores.0 ≡ Err client.NoMemory → ⊥)
   stands = made (commit_refusal given h p) given h h2 p stores.0 stored failed refused is stores.2
 
   added : Adds p h h2
   added = subst (λ (k : List Event). Adds p h k) (sym stands.1)
-      (adds p (commit_of given h p) stores.0 h)
+      (adds p (commit_of given h p) stores.0 h stands.2)
 
   pub still-held : is_held h p ≡ true → is_held h2 p ≡ true
   still-held held = added.held ∙ held
@@ -203,11 +220,13 @@ module _ (given : Given) (h h2 : List Event) (p : ℕ) (told : Bool) (b b' : Bro
       revoked : (o : Option EngineFault) → o ≡ None
           → Does (Ok failed) (revoke_after given h p stores.0 o) h h3
       revoked (Some g) not = cc
-      revoked None not = (
-        ap (λ (x : Option ClientFault). Ok x) stands.0,
-        after ∙ ap (λ (e : ℕ). Revoke p e ∷ h2) (epoch_is ∙ added.epoch)
-            ∙ ap (λ (k : List Event). Revoke p (epoch_of h p) ∷ k) stands.1,
-      )
+      revoked None not =
+          subst (λ (x : Step (Option ClientFault)). Does (Ok failed) x h h3)
+          (sym (revoke_with-made h p (commit_of given h p) stores.0 stands.2)) (
+            ap (λ (x : Option ClientFault). Ok x) stands.0,
+            after ∙ ap (λ (e : ℕ). Revoke p e ∷ h2) (epoch_is ∙ added.epoch)
+                ∙ ap (λ (k : List Event). Revoke p (epoch_of h p) ∷ k) stands.1,
+          )
 
   -- and what the type keeps, where the state is known behind the commit
   module _ (state new : State) (told2 : Bool) (kept : ℕ → Commit) (room : ℕ)

@@ -21,6 +21,7 @@ use Rattle.pc_model.specs.History.{History}
 use Rattle.pc_task.specs.declared.job.Job.{Job}
 use Rattle.pc_task.specs.Jobs.{PlainJob, plain_job}
 use Rattle.pc_model.specs.Broker.{Broker, stored_for}
+use Rattle.pc_offset_client.specs.declared.fault.ClientFault.TheVariants as client
 use Rattle.pc_offset_client.specs.declared.fault.ClientFault.TheVariants.{LinkFailed}
 use Rattle.pc_offset_client.specs.Client.{CommitGives, FetchGives, GROUP}
 use Rattle.pc_world.specs.World.{HasRisen}
@@ -97,8 +98,9 @@ commit_refusal given h p =
     else if is_full h 1 then Some JournalFull
     else None
 
--- the part's commit as it stands, stored or failed
+-- the part's commit, stored or failed; when out of memory nothing is added
 abbrev pub commit_with : ℕ → SizedCommit → Result (Unit {0}) ClientFault → Step Receipt
+commit_with p c (Err client.NoMemory) = refuses NoMemory
 commit_with p c (Err failed) = record {
   answer = Err (Client failed);
   events = CommitFailed p c.commit.position c.commit.map c.size ∷ [];
@@ -251,14 +253,20 @@ failure_of (Ok receipt) = Ok None
 failure_of (Err (Client failed)) = Ok (Some failed)
 failure_of (Err fault) = Err fault
 
--- the revocation of a part, whose commit as it stands was stored or failed just before
+-- the revocation of a part, whose commit was stored or failed just before; when out of memory
+-- nothing is added
+abbrev pub revoke_with : List Event → ℕ → SizedCommit → Result (Unit {0}) ClientFault
+    → Step (Option ClientFault)
+revoke_with h p c (Err client.NoMemory) = refuses NoMemory
+revoke_with h p c outcome = record {
+  answer = Ok (failed_of outcome);
+  events = Revoke p (epoch_of h p) ∷ (commit_with p c outcome).events;
+}
+
 abbrev pub revoke_after : Given → List Event → ℕ → Result (Unit {0}) ClientFault
     → Option EngineFault → Step (Option ClientFault)
 revoke_after given h p outcome (Some fault) = refuses fault
-revoke_after given h p outcome None = record {
-  answer = Ok (failed_of outcome);
-  events = Revoke p (epoch_of h p) ∷ (commit_with p (commit_of given h p) outcome).events;
-}
+revoke_after given h p outcome None = revoke_with h p (commit_of given h p) outcome
 
 abbrev pub revoke_step : Given → List Event → ℕ → Result (Unit {0}) ClientFault
     → Step (Option ClientFault)
@@ -335,3 +343,9 @@ pub record StoresOnly (may : ℕ → Bool) (before after : Broker) : Type 0 wher
   pub memberships : after.memberships ≡ before.memberships
   pub others : (group : List ℕ) (q : ℕ) → (bytes_eq GROUP group && may q) ≡ false
       → stored_for after group q ≡ stored_for before group q
+
+-- what a broker stores is as before after every fault of a call but the link's
+abbrev pub KeepsStore : {A : Type 0} → Result A EngineFault → Broker → Broker → Type 0
+KeepsStore (Err (Client failed)) before after = Unit {0}
+KeepsStore (Err fault) before after = after ≡ before
+KeepsStore (Ok done) before after = Unit {0}

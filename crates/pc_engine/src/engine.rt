@@ -1,7 +1,8 @@
 //! The engine. Clauses see what it was given, its journal, and its link.
 
-ghost use Rattle.std.specs.Prelude.{◌≡◌, List, map};
+ghost use Rattle.std.specs.Prelude.{◌≡◌, IfOk, List, OnErr, map};
 ghost use Rattle.pc_model.specs.Record.{Record};
+ghost use Rattle.pc_offset_client.specs.declared.fault.ClientFault.TheVariants.{NoMemory as Forgot};
 ghost use Rattle.pc_engine.specs.Polls.{offset_and_key, plain_next};
 ghost use Rattle.pc_engine.specs.Effect.{last_offset};
 
@@ -61,7 +62,7 @@ impl<'a, L: Link> Model for Engine<'a, L> {
 }
 
 impl<'a, L: Link> Engine<'a, L> {
-    ghost use Rattle.std.specs.Prelude.{◌≡◌, ◌≤◌, ◌<◌, ◌+◌, ◌^◌, ◌⊎◌, ◌↔◌, ◌&&◌, ◌==◌, IsTrue, ℕ, true, false, [], IfOk, IfErr, OnOk, OnErr, Err, Ok, Some, None, Result, if◌then◌else◌, length};
+    ghost use Rattle.std.specs.Prelude.{◌≡◌, ◌≤◌, ◌<◌, ◌+◌, ◌^◌, ◌⊎◌, ◌↔◌, ◌&&◌, ◌==◌, IsTrue, ℕ, true, false, [], IfOk, IfErr, IsOk, OnOk, OnErr, Err, Ok, Some, None, Result, if◌then◌else◌, length};
     ghost use Rattle.pc_model.specs.declared.commit.Commit.{Commit};
     ghost use Rattle.pc_model.specs.Known.{commit_of};
     ghost use Rattle.pc_offset_client.specs.declared.fault.ClientFault.{ClientFault};
@@ -79,7 +80,7 @@ impl<'a, L: Link> Engine<'a, L> {
     ghost use Rattle.pc_model.specs.Lawful.{IsLegal};
     ghost use Rattle.pc_model.specs.Stored.{may_store};
     ghost use Rattle.pc_laws.specs.Lists.{In};
-    ghost use Rattle.pc_engine.specs.Effect.{Does, IsFetched, IsStored, StoresOnly, assign_refusal, assign_step, commit_refusal, commit_step, is_full, refused_by};
+    ghost use Rattle.pc_engine.specs.Effect.{Does, IsFetched, IsStored, KeepsStore, StoresOnly, assign_refusal, assign_step, commit_refusal, commit_step, is_full, refused_by};
     ghost use Rattle.pc_engine.specs.Engine.{given_by};
     ghost use Rattle.pc_engine.specs.State.{PartKeeps};
     ghost use Rattle.pc_model.specs.declared.choices.Order.TheVariants.{None as NoOrder};
@@ -121,9 +122,12 @@ impl<'a, L: Link> Engine<'a, L> {
         })
     }
 
-    /// The events so far.
+    /// The events so far: with a place for the result of each job that is out, they are at most
+    /// 4,000,000.
     pub fn journal(&self) -> &Journal
-        ensures { result.now ≡ self.now.journal }
+        ensures value { result.now ≡ self.now.journal }
+        ensures limit { length self.now.journal.events
+            + length (open_jobs self.now.journal.events) ≤ EVENTS_MAX }
     {
         &self.journal
     }
@@ -160,7 +164,8 @@ impl<'a, L: Link> Engine<'a, L> {
             self.old.journal.events self.new.journal.events }
         ensures refused { (fault : EngineFault) →
             assign_refusal self.old.given self.old.journal.events part ≡ Some fault
-            → (result ≡ Err fault) × (self.new.journal.events ≡ self.old.journal.events) }
+            → (result ≡ Err fault) × (self.new.journal.events ≡ self.old.journal.events)
+            × (self.new.link ≡ self.old.link) }
         ensures stays { OnErr result (self.new.journal.events ≡ self.old.journal.events) }
         ensures cause { result ≡ Err (Failed LinkFailed) → HasRisen (L.faults self.old.link)
             (L.faults self.new.link) }
@@ -198,7 +203,10 @@ impl<'a, L: Link> Engine<'a, L> {
             self.old.journal.events self.new.journal.events }
         ensures refused { (fault : EngineFault) →
             commit_refusal self.old.given self.old.journal.events part ≡ Some fault
-            → (result ≡ Err fault) × (self.new.journal.events ≡ self.old.journal.events) }
+            → (result ≡ Err fault) × (self.new.journal.events ≡ self.old.journal.events)
+            × (self.new.link ≡ self.old.link) }
+        ensures stays { L.is_told self.old.link ≡ true
+            → KeepsStore result (L.store self.old.link) (L.store self.new.link) }
         ensures cause { result ≡ Err (Failed LinkFailed) → HasRisen (L.faults self.old.link)
             (L.faults self.new.link) }
         ensures others { L.is_told self.old.link ≡ true → StoresOnly (has_log self.old.given)
@@ -309,9 +317,10 @@ impl<'a, L: Link> Engine<'a, L> {
         self.state.expects(done)
     }
 
-    /// Makes room for `n` events beyond those kept for the jobs that are out. The only error is want
-    /// of memory.
+    /// Makes room for `n` events beyond those kept for the jobs that are out. Fails only where there
+    /// is no such room yet and memory runs out.
     pub fn reserve(&mut self, n: u32) -> Result<(), AllocError>
+        ensures enough { n ≤ spare self.old.journal → IsOk result }
         ensures room { OnOk result (n ≤ spare self.new.journal) }
         ensures events { self.new.journal.events ≡ self.old.journal.events }
         ensures given { self.new.given ≡ self.old.given }
@@ -332,6 +341,8 @@ impl<'a, L: Link> Engine<'a, L> {
             (commit_of self.old.given self.old.journal.events part).commit outcome × Does result
             (commit_step self.old.given self.old.journal.events part outcome)
             self.old.journal.events self.new.journal.events }
+        ensures stays { L.is_told self.old.link ≡ true
+            → KeepsStore result (L.store self.old.link) (L.store self.new.link) }
         ensures cause { result ≡ Err (Failed LinkFailed) → HasRisen (L.faults self.old.link)
             (L.faults self.new.link) }
         ensures others { L.is_told self.old.link ≡ true → StoresOnly (has_log self.old.given)
@@ -356,8 +367,8 @@ impl<'a, L: Link> Engine<'a, L> {
                 });
                 Ok(Committed { position, size })
             }
-            Err(ClientFault::NoMemory) => Err(EngineFault::NoMemory),
             Err(fault) => {
+                let fault = lasting(fault)?;
                 self.state.committed(part, sized.size);
                 self.journal.push(Event::CommitFailed {
                     part,
@@ -486,6 +497,17 @@ impl<'a, L: Link> Engine<'a, L> {
         } else {
             Err(EngineFault::JournalFull)
         }
+    }
+}
+
+/// Why a commit failed, unless memory ran out.
+fn lasting(fault: ClientFault) -> Result<ClientFault, AllocError>
+    ensures lasts { IfOk result (λ f. (f ≡ fault) × (fault ≡ Forgot → ⊥)) }
+    ensures memory { OnErr result (fault ≡ Forgot) }
+{
+    match fault {
+        ClientFault::NoMemory => Err(AllocError),
+        fault => Ok(fault),
     }
 }
 

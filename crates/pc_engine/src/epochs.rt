@@ -60,7 +60,8 @@ impl<'a, L: Link> Engine<'a, L> {
     ghost use Rattle.pc_offset_client.specs.declared.fault.ClientFault.TheVariants.{LinkFailed};
     ghost use Rattle.pc_world.specs.World.{HasRisen};
     ghost use Rattle.pc_engine.specs.declared.fault.EngineFault.{EngineFault};
-    ghost use Rattle.pc_engine.specs.Effect.{Does, IsStored, StoresOnly, crash_step, held_refusal, lose_step, refused_by, revoke_refusal, revoke_step};
+    ghost use Rattle.pc_engine.specs.Effect.{Does, IsStored, KeepsStore, StoresOnly, crash_step, held_refusal, lose_step, refused_by, revoke_refusal, revoke_step, spare};
+    ghost use Rattle.pc_engine.specs.declared.fault.EngineFault.TheVariants.{NoMemory};
 
     /// How many parts there are, with a log or without one.
     pub fn parts(&self) -> u32
@@ -77,8 +78,8 @@ impl<'a, L: Link> Engine<'a, L> {
     }
 
     /// The part was lost: adds Lost with its epoch, which is over. Nothing stays that was learnt of
-    /// it but the jobs that are out, whose results will come too late. Takes no memory but for a
-    /// place in the journal.
+    /// it but the jobs that are out, whose results will come too late. Takes no memory where
+    /// the journal has a spare place.
     ///
     /// Refuses with `Closed`, `UnknownPart`, `NotHeld`, `JournalFull` or `NoMemory`, the first that
     /// applies.
@@ -86,6 +87,7 @@ impl<'a, L: Link> Engine<'a, L> {
         ensures effect { Does result
             (lose_step self.old.given self.old.journal.events part)
             self.old.journal.events self.new.journal.events }
+        ensures memory { 1 ≤ spare self.old.journal → result ≡ Err NoMemory → ⊥ }
         ensures given { self.new.given ≡ self.old.given }
         ensures link { self.new.link ≡ self.old.link }
     {
@@ -97,13 +99,14 @@ impl<'a, L: Link> Engine<'a, L> {
     }
 
     /// A crash: adds Crash. No part is held afterwards, and nothing stays that was learnt but the
-    /// journal, the jobs that are out, and the link. Takes no memory but for a place in the
-    /// journal.
+    /// journal, the jobs that are out, and the link. Takes no memory where the journal has
+    /// a spare place.
     ///
     /// Refuses with `Closed`, `JournalFull` or `NoMemory`, the first that applies.
     pub fn crash(&mut self) -> Result<(), EngineFault>
         ensures effect { Does result (crash_step self.old.journal.events)
             self.old.journal.events self.new.journal.events }
+        ensures memory { 1 ≤ spare self.old.journal → result ≡ Err NoMemory → ⊥ }
         ensures given { self.new.given ≡ self.old.given }
         ensures link { self.new.link ≡ self.old.link }
     {
@@ -129,7 +132,10 @@ impl<'a, L: Link> Engine<'a, L> {
             self.old.journal.events self.new.journal.events }
         ensures refused { (fault : EngineFault) →
             revoke_refusal self.old.given self.old.journal.events part ≡ Some fault
-            → (result ≡ Err fault) × (self.new.journal.events ≡ self.old.journal.events) }
+            → (result ≡ Err fault) × (self.new.journal.events ≡ self.old.journal.events)
+            × (self.new.link ≡ self.old.link) }
+        ensures stays { L.is_told self.old.link ≡ true
+            → KeepsStore result (L.store self.old.link) (L.store self.new.link) }
         ensures cause { result ≡ Ok (Some LinkFailed) → HasRisen (L.faults self.old.link)
             (L.faults self.new.link) }
         ensures others { L.is_told self.old.link ≡ true → StoresOnly (has_log self.old.given)

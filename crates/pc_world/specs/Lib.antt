@@ -1,4 +1,5 @@
 pub mod World
 pub mod MemoryFiles
 pub mod MemorySink
+pub mod FailedReads
 pub mod FailingLink

@@ -2,7 +2,9 @@
 
 ghost use Rattle.std.specs.Prelude.{◌≡◌, ◌+◌, ◌≤◌, OnErr, OnOk, take, vec_len};
 
+use crate::failed_reads::FailedReads;
 use crate::files::{FILE_BYTES_MAX, Files, FilesFault};
+use std::alloc::Global;
 use std::io::Read;
 use std::{fs, io};
 
@@ -10,13 +12,14 @@ use std::{fs, io};
 #[derive(Drop)]
 pub struct DiskFiles<'a, R: std::rt::Files> {
     rt: &'a R,
-    faults: u64,
+    failed: FailedReads,
 }
 
 impl<'a, R: std::rt::Files> DiskFiles<'a, R> {
     /// The files that the runtime reaches.
-    pub fn new(rt: &'a R) -> DiskFiles<'a, R> {
-        DiskFiles { rt, faults: 0 }
+    pub fn new(alloc: Global, rt: &'a R) -> DiskFiles<'a, R> {
+        let failed = FailedReads::new(alloc);
+        DiskFiles { rt, failed }
     }
 
     /// Reads one byte more than a file may have at the most.
@@ -31,16 +34,17 @@ impl<'a, R: std::rt::Files> DiskFiles<'a, R> {
 
 impl<'a, R: std::rt::Files> Files for DiskFiles<'a, R> {
     ghost use Rattle.std.specs.Prelude.{None};
+    ghost use Rattle.pc_world.specs.FailedReads.{count_of};
 
     ghost told = { λ _ _. None };
 
-    ghost faults = { λ f. f.faults };
+    ghost faults = { λ f. count_of f.failed };
 
     fn read(&mut self, name: &str, into: &mut Vec<u8>) -> Result<(), FilesFault> {
         let start = into.len();
         if self.read_some(name, into).is_err() {
             into.truncate(start);
-            self.faults = self.faults.saturating_add(1);
+            self.failed.add(name)?;
             return Err(FilesFault::Failed);
         }
         if (into.len() - start) as u64 > FILE_BYTES_MAX {

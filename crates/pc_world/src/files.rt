@@ -45,18 +45,20 @@ pub trait Files {
     /// The contents of the file of a name, as far as they are told.
     ghost told: { Self → List ℕ → Option (List ℕ) };
 
-    /// How often the outside has failed. The count stops at 2^64 - 1.
-    ghost faults: { Self → ℕ };
+    /// How often the reads of the file of a name have failed. A count may stop at 2^64 - 1.
+    ghost faults: { Self → List ℕ → ℕ };
 
-    /// Appends the contents of the file to `into`. Fails with `Failed` only where the count of
-    /// faults rose, and with `TooLong` where the file has more than 268,435,456 bytes. After a
-    /// failure `into` is as before. Every call leaves the contents as they were.
+    /// Appends the contents of the file to `into`. Fails with `Failed` only where the count of this
+    /// name's faults rose, and with `TooLong` where the file has more than 268,435,456 bytes. After
+    /// a failure `into` is as before. Every call leaves the contents and the counts of other names
+    /// as they were.
     fn read(&mut self, name: &str, into: &mut Vec<u8>) -> Result<(), FilesFault>
         ensures contents { OnOk result (AppendsFile FILE_BYTES_MAX (told self.old name.now) into.old.items into.new.items) }
         ensures stays { OnErr result (into.new.items ≡ into.old.items) }
-        ensures failed { result ≡ Err FilesFault.Failed → HasRisen (faults self.old) (faults self.new) }
+        ensures failed { result ≡ Err FilesFault.Failed → HasRisen (faults self.old name.now) (faults self.new name.now) }
         ensures too_long { result ≡ Err FilesFault.TooLong → (bytes : List ℕ) → told self.old name.now ≡ Some bytes
             → FILE_BYTES_MAX < length bytes }
         ensures keeps { (n : List ℕ) → told self.new n ≡ told self.old n }
-        ensures count { faults self.old ≤ faults self.new };
+        ensures others { (n : List ℕ) → (n ≡ name.now → ⊥) → faults self.new n ≡ faults self.old n }
+        ensures count { (n : List ℕ) → faults self.old n ≤ faults self.new n };
 }

@@ -3,6 +3,7 @@
 #![tactic(auto)]
 
 mod disk_files;
+mod failed_reads;
 mod failing_link;
 mod faults;
 mod files;

@@ -3,6 +3,7 @@
 ghost use Rattle.std.specs.Prelude.{◌≡◌, ℕ, List, Some, None, OnOk, OnErr, IfOk, option_map, find, bytes_eq, string_bytes};
 ghost use Rattle.std.specs.Borrow.{Bor};
 
+use crate::failed_reads::FailedReads;
 use crate::faults::Faults;
 use crate::files::{FILE_BYTES_MAX, Files, FilesFault};
 use std::alloc::{AllocError, Global};
@@ -21,6 +22,7 @@ pub struct MemoryFiles {
     alloc: Global,
     files: Vec<MemoryFile>,
     faults: Faults,
+    failed: FailedReads,
 }
 
 impl MemoryFiles {
@@ -35,6 +37,7 @@ impl MemoryFiles {
             alloc,
             files: Vec::new(alloc),
             faults: Faults::new(alloc, fails)?,
+            failed: FailedReads::new(alloc),
         })
     }
 
@@ -66,19 +69,20 @@ impl MemoryFiles {
 }
 
 impl Files for MemoryFiles {
+    ghost use Rattle.pc_world.specs.FailedReads.{count_of};
     ghost use Rattle.pc_world.specs.MemoryFiles.{contents_of};
 
     ghost told = { contents_of };
 
-    ghost faults = { λ f. f.faults.count };
+    ghost faults = { λ f. count_of f.failed };
 
     fn read(&mut self, name: &str, into: &mut Vec<u8>) -> Result<(), FilesFault> {
         if self.faults.next_fails() {
-            self.faults.rise();
+            self.failed.add(name)?;
             return Err(FilesFault::Failed);
         }
         let Some(file) = self.find(name) else {
-            self.faults.rise();
+            self.failed.add(name)?;
             return Err(FilesFault::Failed);
         };
         if file.bytes.len() as u64 > FILE_BYTES_MAX {

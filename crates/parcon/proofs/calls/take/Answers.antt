@@ -1,16 +1,20 @@
 -- The take did its step, and a job that it gave came into hand.
-use Rattle.std.proofs.Common.{Option, Some, None, Ok, refl, subst}
+use Rattle.std.proofs.Common.{Option, Some, None, Ok, Err, inl, inr, refl, ap, subst}
+use Rattle.pc_script.specs.declared.play.PlayAct.TheVariants.{Take}
 use Rattle.pc_task.specs.Jobs.{plain_job}
 use Rattle.pc_task.specs.declared.job.Job.{Job}
 use Rattle.pc_engine.specs.Effect.{Does, take_step, taken}
 use Rattle.parcon.specs.declared.remark.Notice.TheVariants.{NoJob}
-use Rattle.parcon.proofs.CallLemmas.{if_ok-map, ok-wants, take-refused, took}
+use Rattle.parcon.specs.Play.{moment}
+use Rattle.parcon.proofs.CallLemmas.{call-broke, calls-refused, err-wants, ok-wants, take-comes, took}
 use Rattle.parcon.proofs.calls.take.Goals as goal
 
-pub returns-in_ok-add-in-Ok-Some-clause-makes : goal.returns-in_ok-add-in-Ok-Some-clause-makes
-returns-in_ok-add-in-Ok-Some-clause-makes g c jobs has = took c.args.engine.now.given
-    c.args.engine.now.journal.events c.take.new.self.journal.events jobs c.args.hand.now has
-    (g.L.Link.faults c.args.engine.now.link) (g.L.Link.faults c.take.new.self.link)
+pub returns-in_ok-add-in-Ok-Some-clause-effect : goal.returns-in_ok-add-in-Ok-Some-clause-effect
+returns-in_ok-add-in-Ok-Some-clause-effect g c jobs has = took c.args.engine.now.given c.args.engine.now.journal.events
+    c.take.new.self.journal.events (g.L.Link.is_told c.args.engine.now.link)
+    (moment (g.L.Link.store c.args.engine.now.link) (g.L.Link.faults c.args.engine.now.link))
+    (moment (g.L.Link.store c.take.new.self.link) (g.L.Link.faults c.take.new.self.link))
+    jobs c.args.hand.now has (ap (λ l. moment (g.L.Link.store l) (g.L.Link.faults l)) c.in-Ok-Some.ensures.link)
     c.add.new.self c.args.worker (Ok (Some (plain_job c.in-Ok-Some.job))) None
     (ok-wants (Some (plain_job c.in-Ok-Some.job))) refl
     (c.in_ok-add-in-Ok-Some.ensures jobs has.each) (subst
@@ -19,10 +23,15 @@ returns-in_ok-add-in-Ok-Some-clause-makes g c jobs has = took c.args.engine.now.
     c.args.engine.now.journal.events c.take.new.self.journal.events) c.in-Ok-Some.field-0-is
     c.in-Ok-Some.ensures.effect)
 
-pub returns-in-Ok-None-clause-makes : goal.returns-in-Ok-None-clause-makes
-returns-in-Ok-None-clause-makes g c jobs has = took c.args.engine.now.given
-    c.args.engine.now.journal.events c.take.new.self.journal.events jobs c.args.hand.now has
-    (g.L.Link.faults c.args.engine.now.link) (g.L.Link.faults c.take.new.self.link)
+pub returns-in_err-add-in-Ok-Some-clause-effect : goal.returns-in_err-add-in-Ok-Some-clause-effect
+returns-in_err-add-in-Ok-Some-clause-effect g c = ?
+
+pub returns-in-Ok-None-clause-effect : goal.returns-in-Ok-None-clause-effect
+returns-in-Ok-None-clause-effect g c jobs has = took c.args.engine.now.given c.args.engine.now.journal.events
+    c.take.new.self.journal.events (g.L.Link.is_told c.args.engine.now.link)
+    (moment (g.L.Link.store c.args.engine.now.link) (g.L.Link.faults c.args.engine.now.link))
+    (moment (g.L.Link.store c.take.new.self.link) (g.L.Link.faults c.take.new.self.link))
+    jobs c.args.hand.now has (ap (λ l. moment (g.L.Link.store l) (g.L.Link.faults l)) c.in-Ok-None.ensures.link)
     c.args.hand.now c.args.worker (Ok None) (Some NoJob) (ok-wants None) refl has.each
     (subst
     (λ (x : Option Job). Does (taken (Ok x))
@@ -30,9 +39,24 @@ returns-in-Ok-None-clause-makes g c jobs has = took c.args.engine.now.given
     c.args.engine.now.journal.events c.take.new.self.journal.events) c.in-Ok-None.field-0-is
     c.in-Ok-None.ensures.effect)
 
-pub returns-in-Err-clause-makes : goal.returns-in-Err-clause-makes
-returns-in-Err-clause-makes g c = if_ok-map c.refused.result _ _
-    (λ notice is jobs has. take-refused c.args.engine.now.given
-    c.args.engine.now.journal.events c.take.new.self.journal.events jobs c.args.hand.now has
-    (g.L.Link.faults c.args.engine.now.link) (g.L.Link.faults c.take.new.self.link)
-    c.args.worker c.in-Err.fault notice is.0 is.1 c.in-Err.ensures.effect) c.refused.ensures
+pub returns-in-Err-clause-effect : goal.returns-in-Err-clause-effect
+returns-in-Err-clause-effect g c = calls-refused (g.L.Link.is_told c.args.engine.now.link)
+    c.args.engine.now.given c.args.engine.now.journal.events (Take c.args.worker)
+    (moment (g.L.Link.store c.args.engine.now.link) (g.L.Link.faults c.args.engine.now.link))
+    (moment (g.L.Link.store c.take.new.self.link) (g.L.Link.faults c.take.new.self.link))
+    c.take.new.self.journal.events c.args.hand.now c.args.hand.now c.in-Err.fault c.refused.result
+    (λ notice other is jobs has. took c.args.engine.now.given c.args.engine.now.journal.events
+    c.take.new.self.journal.events (g.L.Link.is_told c.args.engine.now.link)
+    (moment (g.L.Link.store c.args.engine.now.link) (g.L.Link.faults c.args.engine.now.link))
+    (moment (g.L.Link.store c.take.new.self.link) (g.L.Link.faults c.take.new.self.link))
+    jobs c.args.hand.now has (ap (λ l. moment (g.L.Link.store l) (g.L.Link.faults l)) c.in-Err.ensures.link)
+    c.args.hand.now c.args.worker (Err c.in-Err.fault) notice (err-wants c.in-Err.fault other) is
+    has.each c.in-Err.ensures.effect)
+    (λ none. call-broke c.args.engine.now.given c.args.engine.now.journal.events
+    c.take.new.self.journal.events (g.L.Link.is_told c.args.engine.now.link)
+    (moment (g.L.Link.store c.args.engine.now.link) (g.L.Link.faults c.args.engine.now.link))
+    (moment (g.L.Link.store c.take.new.self.link) (g.L.Link.faults c.take.new.self.link))
+    (Take c.args.worker) (take_step c.args.engine.now.given c.args.engine.now.journal.events c.args.worker) c.in-Err.fault none
+    (ap (λ l. moment (g.L.Link.store l) (g.L.Link.faults l)) c.in-Err.ensures.link)
+    c.in-Err.ensures.effect)
+    c.refused.ensures

@@ -1,5 +1,5 @@
 -- One line more is on its way, or the front of all lines stands in the sink.
-use Rattle.std.proofs.Common.{◌+◌, ◌++◌, subst, take, arith}
+use Rattle.std.proofs.Common.{◌+◌, ◌∙◌, ◌++◌, subst, take}
 use Rattle.std.specs.List.{flat_map}
 use Rattle.pc_print.specs.Line.{line_of}
 use Rattle.parcon.specs.Written.{HasFront, IsOnItsWay}
@@ -41,5 +41,5 @@ loop-event-preserved g c = record {
       (way-put before (g.O.Sink.written c.loop-event.out) c.loop-event.buffer.items
       c.put_event.new.out.items so_far _ (c.loop-event.invariant.way before text way)
       c.in_ok-put_event.ensures.ok));
-  count = omega (arith, c.loop-event.invariant.count, c.in_ok-flush_long.ensures.count);
+  count = c.in_ok-flush_long.ensures.unfailed ∙ c.loop-event.invariant.count;
 }

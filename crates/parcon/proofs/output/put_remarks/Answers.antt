@@ -1,5 +1,5 @@
 -- One line more is on its way, or the front of all lines stands in the sink.
-use Rattle.std.proofs.Common.{◌+◌, ◌++◌, refl, subst, take, arith}
+use Rattle.std.proofs.Common.{◌+◌, ◌∙◌, ◌++◌, refl, subst, take}
 use Rattle.std.specs.List.{flat_map}
 use Rattle.parcon.specs.Ending.{remark_line}
 use Rattle.parcon.specs.Written.{HasFront, IsOnItsWay}
@@ -41,5 +41,5 @@ loop-remark-preserved g c = record {
       (way-put before (g.O.Sink.written c.loop-remark.out) c.loop-remark.buffer.items
       c.put_remark.new.out.items so_far _ (c.loop-remark.invariant.way before text way)
       c.in_ok-put_remark.ensures.ok));
-  count = omega (arith, c.loop-remark.invariant.count, c.in_ok-flush_long.ensures.count);
+  count = c.in_ok-flush_long.ensures.unfailed ∙ c.loop-remark.invariant.count;
 }

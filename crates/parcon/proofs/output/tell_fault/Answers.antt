@@ -13,4 +13,5 @@ returns-in_default-clause-written g c =
     (g.O.Sink.written c.args.out.now) (g.O.Sink.written c.put_status-put.new.out)
     (g.O.Sink.faults c.args.out.now) (g.O.Sink.faults c.put_status-put.new.out)
     c.put_status-put.ensures.whole c.put_status-put.ensures.front c.put_status-put.ensures.failed
+    c.put_status-put.ensures.unfailed
     c.status_after.ensures

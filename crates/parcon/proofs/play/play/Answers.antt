@@ -1,14 +1,12 @@
 -- The engine that was begun plays the lines.
-use Rattle.std.proofs.Common.{◌∙◌, List, [], sym, subst}
-use Rattle.std.specs.Prelude.{IfOk}
+use Rattle.std.proofs.Common.{◌∙◌, List, [], ap, sym, subst}
 use Rattle.pc_model.specs.Given.{Given}
-use Rattle.pc_task.specs.Jobs.{PlainJob}
 use Rattle.pc_model.specs.declared.event.Event.{Event}
 use Rattle.pc_offset_client.specs.Client.{kept_for}
 use Rattle.pc_engine.specs.Engine.{given_by}
-use Rattle.parcon.specs.Play.{PlaysTo, start}
+use Rattle.parcon.specs.Play.{Played, moment}
 use Rattle.parcon.specs.Promise.{IsKept}
-use Rattle.parcon.proofs.PlayLemmas.{kept-at-start}
+use Rattle.parcon.proofs.PlayLemmas.{kept-at-start, stops-at-once}
 use Rattle.parcon.proofs.play.play.Goals as goal
 
 pub returns-in-Ok-clause-kept : goal.returns-in-Ok-clause-kept
@@ -21,22 +19,32 @@ returns-in-Ok-clause-kept g c =
 
 pub returns-in-Ok-clause-played : goal.returns-in-Ok-clause-played
 returns-in-Ok-clause-played g c =
-    subst (λ (given : Given). IfOk c.play_on.result.remarks (λ remarks. (jobs : List PlainJob)
-    × PlaysTo given start c.args.lines.now (g.L.Link.faults c.args.link)
-    (g.L.Link.faults c.play_on.result.link)
-    (record {
-      history = c.play_on.result.journal.events;
-      hand = jobs;
-      remarks = remarks.items;
-    }))) c.in-Ok.ensures.given
-    (subst (λ l. IfOk c.play_on.result.remarks (λ remarks. (jobs : List PlainJob)
-    × PlaysTo c.in-Ok.engine.given start c.args.lines.now (g.L.Link.faults l)
-    (g.L.Link.faults c.play_on.result.link)
-    (record {
-      history = c.play_on.result.journal.events;
-      hand = jobs;
-      remarks = remarks.items;
-    }))) c.in-Ok.ensures.link c.play_on.ensures.played)
+    subst (λ (given : Given). Played (λ remarks. remarks.items) (g.L.Link.is_told c.args.link)
+    given c.args.lines.now (moment (g.L.Link.store c.args.link) (g.L.Link.faults c.args.link))
+    (moment (g.L.Link.store c.play_on.result.link) (g.L.Link.faults c.play_on.result.link))
+    c.play_on.result.journal.events c.play_on.result.remarks) c.in-Ok.ensures.given
+    (subst (λ l. Played (λ remarks. remarks.items) (g.L.Link.is_told l)
+    c.in-Ok.engine.given c.args.lines.now (moment (g.L.Link.store l) (g.L.Link.faults l))
+    (moment (g.L.Link.store c.play_on.result.link) (g.L.Link.faults c.play_on.result.link))
+    c.play_on.result.journal.events c.play_on.result.remarks) c.in-Ok.ensures.link
+    c.play_on.ensures.played)
+
+pub returns-in-Err-clause-played : goal.returns-in-Err-clause-played
+returns-in-Err-clause-played g c =
+    subst (λ r. Played (λ remarks. remarks.items) (g.L.Link.is_told c.args.link)
+    (given_by c.args.setup.now c.args.logs.now [] (g.L.Link.is_told c.args.link)
+    (kept_for (g.L.Link.store c.args.link))) c.args.lines.now
+    (moment (g.L.Link.store c.args.link) (g.L.Link.faults c.args.link))
+    (moment (g.L.Link.store c.unplayed.result.link) (g.L.Link.faults c.unplayed.result.link))
+    c.unplayed.result.journal.events r) (sym c.unplayed.ensures.remarks)
+    (stops-at-once (g.L.Link.is_told c.args.link)
+    (given_by c.args.setup.now c.args.logs.now [] (g.L.Link.is_told c.args.link)
+    (kept_for (g.L.Link.store c.args.link))) c.args.lines.now
+    (moment (g.L.Link.store c.args.link) (g.L.Link.faults c.args.link))
+    (moment (g.L.Link.store c.unplayed.result.link) (g.L.Link.faults c.unplayed.result.link))
+    c.unplayed.result.journal.events c.unplayed.ensures.journal
+    (ap (λ l. moment (g.L.Link.store l) (g.L.Link.faults l))
+    (c.unplayed.ensures.link ∙ c.in-Err.ensures.back)))
 
 pub returns-in-Err-clause-kept : goal.returns-in-Err-clause-kept
 returns-in-Err-clause-kept g c =

@@ -5,6 +5,7 @@ use Rattle.parcon.proofs.reading.read.Goals as goal
 
 pub returns-in-Ok-clause-answer : goal.returns-in-Ok-clause-answer
 returns-in-Ok-clause-answer g c = inr (file-read (g.F.Files.told c.args.files.now c.args.name.now)
-    (g.F.Files.faults c.args.files.now) (g.F.Files.faults c.read.new.self) c.args.name.now
+    (g.F.Files.faults c.args.files.now c.args.name.now)
+    (g.F.Files.faults c.read.new.self c.args.name.now) c.args.name.now
     c.new-bytes.result.items c.read.new.into.items c.new-bytes.ensures.items
     c.in-Ok.ensures.contents)

@@ -31,7 +31,7 @@ returns-in_err-logs-clause-texts g c =
       logs = map string_bytes c.in-Some.names.logs.now;
       script = c.in-Some.names.script.now;
     }) c.in-Some.ensures.value (g.F.Files.faults c.read_logs.new.files)
-    c.in_err-logs.field-0.0 c.in_err-logs.ensures.count (omega arith) logs))
+    c.in_err-logs.field-0.0 c.in_err-logs.ensures.count (λ n. omega arith) logs))
 
 pub returns-in_err-script-clause-texts : goal.returns-in_err-script-clause-texts
 returns-in_err-script-clause-texts g c =
@@ -41,7 +41,8 @@ returns-in_err-script-clause-texts g c =
     step-fault {
     B = IsFromFile c.in-Some.names.script.now
     (g.F.Files.told c.read_logs.new.files c.in-Some.names.script.now)
-    (g.F.Files.faults c.read_logs.new.files) (g.F.Files.faults c.read.new.files)
+    (g.F.Files.faults c.read_logs.new.files c.in-Some.names.script.now)
+    (g.F.Files.faults c.read.new.files c.in-Some.names.script.now)
     (Err c.in_err-script.field-0.0)
     } c.from_residual-in_err-script.result c.in_err-script.field-0.0 is
     c.in_err-script.ensures.answer

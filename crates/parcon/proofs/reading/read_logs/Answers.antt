@@ -7,7 +7,7 @@ use Rattle.std.specs.Result.{result_map_both}
 use Rattle.parcon.specs.declared.status.Status.{Status}
 use Rattle.parcon.specs.Reading.{IsFromLog, IsFromLogs, text_of}
 use Rattle.parcon.proofs.ListLemmas.{map-all}
-use Rattle.parcon.proofs.ReadingLemmas.{read-all, read-next, read-stops, step-fault, was-read}
+use Rattle.parcon.proofs.ReadingLemmas.{le-trans, read-all, read-next, read-stops, step-fault, was-read}
 use Rattle.parcon.proofs.reading.read_logs.Goals as goal
 
 pub loop-name-preserved : goal.loop-name-preserved
@@ -28,7 +28,7 @@ loop-name-preserved g c = record {
       ∙ length-append c.loop-name.logs.items (c.in_ok-log.log ∷ [])
       ∙ ap (λ n. n + 1) c.loop-name.invariant.many;
   keeps = λ n. c.in_ok-log.ensures.keeps n ∙ c.loop-name.invariant.keeps n;
-  count = omega (arith, c.loop-name.invariant.count, c.in_ok-log.ensures.count);
+  count = λ n. le-trans _ _ _ (c.loop-name.invariant.count n) (c.in_ok-log.ensures.count n);
 }
 
 pub returns-in_err-log-clause-texts : goal.returns-in_err-log-clause-texts
@@ -38,7 +38,8 @@ returns-in_err-log-clause-texts g c =
     step-fault {
     B = IsFromLog c.as_str.result.now
     (g.F.Files.told c.loop-name.files c.as_str.result.now)
-    (g.F.Files.faults c.loop-name.files) (g.F.Files.faults c.read_log.new.files)
+    (g.F.Files.faults c.loop-name.files c.as_str.result.now)
+    (g.F.Files.faults c.read_log.new.files c.as_str.result.now)
     c.loop-name.used (Err c.in_err-log.field-0.0)
     } c.from_residual.result c.in_err-log.field-0.0 is c.in_err-log.ensures.text
     (λ log. subst (λ r. IsFromLogs (map string_bytes c.args.names.now)

@@ -2,7 +2,7 @@
 use Rattle.std.proofs.Common.{◌≡◌, ◌≤◌, List, ℕ, map, take, length}
 use Rattle.std.specs.Prelude.{string_bytes}
 use Rattle.parcon.specs.Reading.{text_of}
-use Rattle.parcon.proofs.ReadingLemmas.{AreRead}
+use Rattle.parcon.proofs.ReadingLemmas.{AreRead, IsLater}
 use Rattle.parcon.proofs.reading.read_logs.Given as goal
 
 abbrev pub invariant-loop-name : goal.invariant-loop-name
@@ -12,5 +12,5 @@ invariant-loop-name g l = record {
   fits : l.used ≤ 268_435_456;
   many : length l.logs.items ≡ l.name-index;
   keeps : (n : List ℕ) → g.F.Files.told l.files n ≡ g.F.Files.told l.fn.files n;
-  count : g.F.Files.faults l.fn.files ≤ g.F.Files.faults l.files;
+  count : IsLater (g.F.Files.faults l.fn.files) (g.F.Files.faults l.files);
 }

@@ -144,71 +144,34 @@ returns-in-Ok-clause-others g c =
     (may_commit c.args.self.now.given c.args.self.now.journal.events c.args.part c.requires.may).known
     (c.in-Ok.ensures.gives is))
 
-pub returns-in-Err : goal.returns-in-Err
-returns-in-Err g c =
+pub returns-in_ok-fault-in-Err-clause-others : goal.returns-in_ok-fault-in-Err-clause-others
+returns-in_ok-fault-in-Err-clause-others g c =
+    subst (λ v. g.L.Link.is_told v.link ≡ true → StoresOnly (has_log c.args.self.now.given)
+    (g.L.Link.store v.link) (g.L.Link.store c.commit.new.self.link)) c.self.view_is
+    (λ is. stores_only-failed _ _ _ c.args.part _ c.in-Err.fault
+    (may_commit c.args.self.now.given c.args.self.now.journal.events c.args.part c.requires.may).known
+    (c.in-Err.ensures.gives is))
+
+pub returns-in_ok-fault-in-Err-clause-given : goal.returns-in_ok-fault-in-Err-clause-given
+returns-in_ok-fault-in-Err-clause-given g c =
     let inner : commit_refusal (given_to c.self.inside.state c.self.inside.journal.events
     (g.L.Link.is_told c.self.inside.client.link) (kept_for (g.L.Link.store c.self.inside.client.link)))
     c.self.inside.journal.events c.args.part ≡ None = rw (← c.self.view_is) at c.requires.may in
     let commit_is : c.in_ok-sized.sized ≡ commit_of (given_to c.self.inside.state c.self.inside.journal.events
     (g.L.Link.is_told c.self.inside.client.link) (kept_for (g.L.Link.store c.self.inside.client.link)))
     c.self.inside.journal.events c.args.part = rw (← c.self.view_is) at c.in_ok-sized.ensures.commit in
-    record {
-      effect = subst (λ v. (x : Result (Unit {0}) ClientFault) × IsStored (g.L.Link.is_told v.link)
-          (g.L.Link.store v.link) (g.L.Link.store c.commit.new.self.link) (g.L.Link.faults v.link)
-          (g.L.Link.faults c.commit.new.self.link) c.args.part
-          (commit_of v.given v.journal.events c.args.part).commit x
-          × Does {A = Committed} (Err (Client c.in-Err.fault))
-          (commit_step v.given v.journal.events c.args.part x) v.journal.events
-          c.push-in-Err.new.self.events) c.self.view_is (
-            Err c.in-Err.fault,
-            record {
-              cause = c.in-Err.ensures.cause;
-              gives = λ is. commit-gives c.self.inside.state c.self.inside.journal.events
-                  (g.L.Link.is_told c.self.inside.client.link) (kept_for (g.L.Link.store c.self.inside.client.link))
-                  c.self.inside.journal.room c.self.invariant c.args.part inner c.in_ok-sized.sized
-                  commit_is _ _
-                  (Err c.in-Err.fault) (c.in-Err.ensures.gives is);
-            },
-            failed-does c.self.inside.state c.self.inside.journal.events
-                (g.L.Link.is_told c.self.inside.client.link) (kept_for (g.L.Link.store c.self.inside.client.link))
-                c.self.inside.journal.room c.self.invariant c.args.part inner c.in_ok-sized.sized
-                commit_is
-                (kept_for (g.L.Link.store c.commit.new.self.link)) c.committed-in-Err.new.self
-                (g.L.Link.is_told c.commit.new.self.link) c.commit.ensures.told c.push-in-Err.new.self.events
-                c.push-in-Err.new.self.room
-                (let enough = rw (← c.self.view_is) at c.requires.room in
-                let less = c.push-in-Err.ensures.room in omega (arith, enough, less))
-                (λ is. may_keep-failed _ _ _ _ c.in-Err.fault (c.in-Err.ensures.gives is))
-                (c.committed-in-Err.ensures.failed (given_to c.self.inside.state c.self.inside.journal.events
-                (g.L.Link.is_told c.self.inside.client.link) (kept_for (g.L.Link.store c.self.inside.client.link)))
-                c.self.inside.journal.events c.in_ok-sized.sized.commit.position c.in_ok-sized.sized.commit.map c.self.invariant.knows)
-                c.push-in-Err.ensures.events c.in-Err.fault,
-          );
-      cause = λ is. subst (λ v. HasRisen (g.L.Link.faults v.link) (g.L.Link.faults c.commit.new.self.link))
-          c.self.view_is (c.in-Err.ensures.cause (same-failure _ _ is));
-      others = subst (λ v. g.L.Link.is_told v.link ≡ true → StoresOnly (has_log v.given)
-          (g.L.Link.store v.link) (g.L.Link.store c.commit.new.self.link)) c.self.view_is
-          (λ is. stores_only-failed _ _ _ c.args.part _ c.in-Err.fault
-          (may_commit (given_to c.self.inside.state c.self.inside.journal.events
-          (g.L.Link.is_told c.self.inside.client.link) (kept_for (g.L.Link.store c.self.inside.client.link)))
-          c.self.inside.journal.events c.args.part inner).known
-          (c.in-Err.ensures.gives is));
-      given = failed-given c.self.inside.state c.self.inside.journal.events
-          (g.L.Link.is_told c.self.inside.client.link) (kept_for (g.L.Link.store c.self.inside.client.link))
-          c.self.inside.journal.room c.self.invariant c.args.part inner c.in_ok-sized.sized
-          commit_is
-          (kept_for (g.L.Link.store c.commit.new.self.link)) c.committed-in-Err.new.self
-          (g.L.Link.is_told c.commit.new.self.link) c.commit.ensures.told c.push-in-Err.new.self.events
-          c.push-in-Err.new.self.room
-          (let enough = rw (← c.self.view_is) at c.requires.room in
-          let less = c.push-in-Err.ensures.room in omega (arith, enough, less))
-          (λ is. may_keep-failed _ _ _ _ c.in-Err.fault (c.in-Err.ensures.gives is))
-          (c.committed-in-Err.ensures.failed (given_to c.self.inside.state c.self.inside.journal.events
-          (g.L.Link.is_told c.self.inside.client.link) (kept_for (g.L.Link.store c.self.inside.client.link)))
-          c.self.inside.journal.events c.in_ok-sized.sized.commit.position c.in_ok-sized.sized.commit.map c.self.invariant.knows)
-          c.push-in-Err.ensures.events
-          ∙ ap (λ v. v.given) c.self.view_is;
-      told = c.commit.ensures.told ∙ ap (λ v. g.L.Link.is_told v.link) c.self.view_is;
-      count = subst (λ v. g.L.Link.faults v.link ≤ g.L.Link.faults c.commit.new.self.link) c.self.view_is c.commit.ensures.count;
-      room = inr (c.push-in-Err.ensures.room ∙ ap (λ v. v.journal.room) c.self.view_is);
-    }
+    failed-given c.self.inside.state c.self.inside.journal.events
+    (g.L.Link.is_told c.self.inside.client.link) (kept_for (g.L.Link.store c.self.inside.client.link))
+    c.self.inside.journal.room c.self.invariant c.args.part inner c.in_ok-sized.sized
+    commit_is
+    (kept_for (g.L.Link.store c.commit.new.self.link)) c.committed-in-Err.new.self
+    (g.L.Link.is_told c.commit.new.self.link) c.commit.ensures.told c.push-in-Err.new.self.events
+    c.push-in-Err.new.self.room
+    (let enough = rw (← c.self.view_is) at c.requires.room in
+    let less = c.push-in-Err.ensures.room in omega (arith, enough, less))
+    (λ is. may_keep-failed _ _ _ _ c.in-Err.fault (c.in-Err.ensures.gives is))
+    (c.committed-in-Err.ensures.failed (given_to c.self.inside.state c.self.inside.journal.events
+    (g.L.Link.is_told c.self.inside.client.link) (kept_for (g.L.Link.store c.self.inside.client.link)))
+    c.self.inside.journal.events c.in_ok-sized.sized.commit.position c.in_ok-sized.sized.commit.map c.self.invariant.knows)
+    c.push-in-Err.ensures.events
+    ∙ ap (λ v. v.given) c.self.view_is
