@@ -1,6 +1,6 @@
 -- What the call of a line makes of a history and of the jobs in hand.
-use Rattle.std.proofs.Common.{◌≡◌, ◌≤◌, ℕ, Bool, true, false, ◌&&◌, ◌==◌, inl, inr, List, ◌++◌, Option, Some, None, Result, Ok, Err, refl, ap, sym, subst, ◌∙◌, arith}
-use Rattle.std.specs.Prelude.{IfOk, MatchResult, OnErr}
+use Rattle.std.proofs.Common.{◌≡◌, ◌≤◌, ℕ, Bool, true, false, ◌&&◌, ◌==◌, inl, inr, List, ◌++◌, Option, Some, None, Result, Ok, Err, refl, ap, sym, subst, ◌∙◌, arith, true≢false}
+use Rattle.std.specs.Prelude.{IfOk, IsErr, MatchResult, OnErr}
 use Rattle.std.proofs.lemmas.Bool.{cases_Bool}
 use Rattle.pc_model.specs.declared.commit.Commit.{Commit as StoredCommit}
 use Rattle.pc_model.specs.declared.event.Event.{Event}
@@ -71,13 +71,21 @@ aborted-same told m m' same = record {
 broke : {A : Type 0} (step : Step A) (fault : EngineFault) (h h' : List Event) → fault ≡ NoMemory
     → Does (Err fault) step h h' → h' ≡ h
 broke {A} step fault h h' none does =
-    subst (λ (x : EngineFault). Does {A} (Err x) step h h') none does
+    subst (λ (x : EngineFault). Does {A = A} (Err x) step h h') none does
 
 -- and leaves a told store
-forgot-keeps : {A : Type 0} (fault : EngineFault) (b b' : Broker) → fault ≡ NoMemory
-    → KeepsStore {A} (Err fault) b b' → b' ≡ b
-forgot-keeps {A} fault b b' none keeps =
-    subst (λ (x : EngineFault). KeepsStore {A} (Err x) b b') none keeps
+forgot-keeps : (A : Type 0) (fault : EngineFault) (b b' : Broker) → fault ≡ NoMemory
+    → KeepsStore {A = A} (Err fault) b b' → b' ≡ b
+forgot-keeps A fault b b' none keeps =
+    subst (λ (x : EngineFault). KeepsStore {A = A} (Err x) b b') none keeps
+
+-- what is left of a line's call when out of memory
+pub calls-err : {E : Type 0} (told : Bool) (given : Given) (h : List Event) (act : PlayAct)
+    (m m' : Moment) (h' : List Event) (hand hand' : Hand) (r : Result (Option Notice) E) → IsErr r
+    → ((jobs : List PlainJob) → Breaks told given h jobs act m m' h')
+    → Calls told given h act m m' h' hand hand' r
+calls-err told given h act m m' h' hand hand' (Ok notice) is broken = absurd (true≢false (sym is))
+calls-err told given h act m m' h' hand hand' (Err e) is broken = broken
 
 -- what a line's call comes to where it was refused
 pub calls-refused : {E : Type 0} (told : Bool) (given : Given) (h : List Event) (act : PlayAct)
@@ -327,14 +335,14 @@ module _ (given : Given) (h h' : List Event) (told : Bool) (m m' : Moment) where
 
   pub store-broke : {A : Type 0} (act : PlayAct) (step : Result (Unit {0}) ClientFault → Step A)
       (p : ℕ) (c : StoredCommit) (fault : EngineFault) → fault ≡ NoMemory
-      → (told ≡ true → KeepsStore {A} (Err fault) m.store m'.store) → m.faults ≤ m'.faults
+      → (told ≡ true → KeepsStore {A = A} (Err fault) m.store m'.store) → m.faults ≤ m'.faults
       → (o : Result (Unit {0}) ClientFault)
       × IsStored told m.store m'.store m.faults m'.faults p c o × Does (Err fault) (step o) h h'
       → (jobs : List PlainJob) → Breaks told given h jobs act m m' h'
   store-broke {A} act step p c fault none keeps later (o, stored, does) jobs = inl (
     broke (step o) fault h h' none does,
     record {
-      keeps = λ is. forgot-keeps {A} fault m.store m'.store none (keeps is);
+      keeps = λ is. forgot-keeps A fault m.store m'.store none (keeps is);
       later = later;
     },
   )

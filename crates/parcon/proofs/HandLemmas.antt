@@ -22,6 +22,7 @@ use Rattle.pc_model.proofs.ListLemmas.{same_number}
 use Rattle.pc_laws.proofs.Lists.{In-find}
 use Rattle.pc_laws.proofs.OrderlyLaw.{polled-record}
 use Rattle.pc_offset_client.specs.declared.fault.ClientFault.{ClientFault}
+use Rattle.pc_offset_client.specs.declared.fault.ClientFault.TheVariants as client
 use Rattle.pc_task.specs.Jobs.{PlainJob, plain_job, due_outcome}
 use Rattle.pc_task.specs.declared.job.Job.{Job as TaskJob}
 use Rattle.pc_engine.specs.declared.fault.EngineFault.{EngineFault}
@@ -198,6 +199,7 @@ module _ (given : Given) (h : List Event) (jobs : List PlainJob) (e : Expects gi
       after : (r : Option EngineFault) (o : Result (Unit {0}) ClientFault)
           → Expects given ((commit_after given h p o r).events ++ h) jobs
       after (Some fault) o = e
+      after None (Err client.NoMemory) = e
       after None (Err fault) = quiet given h jobs _ (λ t. refl) refl (λ t. refl) e
       after None (Ok done) = quiet given h jobs _ (λ t. refl) refl (λ t. refl) e
 
@@ -228,6 +230,7 @@ module _ (given : Given) (h : List Event) (jobs : List PlainJob) (e : Expects gi
       after : (r : Option EngineFault) (o : Result (Unit {0}) ClientFault)
           → Expects given ((revoke_after given h p o r).events ++ h) jobs
       after (Some fault) o = e
+      after None (Err client.NoMemory) = e
       after None (Err fault) = quiet given _ jobs _ (λ t. refl) refl (λ t. refl)
           (quiet given h jobs _ (λ t. refl) refl (λ t. refl) e)
       after None (Ok done) = quiet given _ jobs _ (λ t. refl) refl (λ t. refl)

@@ -1,6 +1,6 @@
 -- What a line's call does to a play, and what lines do one after the other.
 use Rattle.std.proofs.Common.{◌≡◌, ◌≤◌, ◌<◌, inl, inr, ℕ, ◌+◌, Bool, true, false, List, [], ◌∷◌, ◌++◌, length, take, get_or, Option, None, refl, ap, sym, subst, ◌∙◌, arith, zero, suc, add-one}
-use Rattle.std.specs.Prelude.{IsTrue, OnErr, Result, Ok, Err, is_none}
+use Rattle.std.specs.Prelude.{IsErr, IsTrue, OnErr, Result, Ok, Err, is_none}
 use Rattle.std.proofs.Math.Bool.{Bool-set}
 use Rattle.std.proofs.lemmas.List.{append-nil}
 use Rattle.std.proofs.Math.Seq.{take-suc}
@@ -26,7 +26,7 @@ use Rattle.parcon.specs.declared.remark.Remark.{Remark}
 use Rattle.parcon.specs.declared.remark.Notice.{Notice}
 use Rattle.parcon.specs.declared.hand.Hand.{Hand}
 use Rattle.parcon.specs.Hand.{AreIn, HasInHand}
-use Rattle.parcon.specs.Play.{Asked, Asks, Breaks, Comes, Entry, LeadTo, LeadsTo, Makes, Moment, Play, PlaysTo, StopsIn, Trace, after_line, remarks_on, start, step_of}
+use Rattle.parcon.specs.Play.{Asked, Asks, Breaks, Comes, Entry, LeadTo, LeadsTo, Makes, IsPlayed, Moment, Play, PlaysTo, StopsIn, Trace, after_line, remarks_on, start, step_of}
 use Rattle.parcon.proofs.CallLemmas.{aborted-same}
 use Rattle.parcon.proofs.HandLemmas.{expects-start}
 use Rattle.pc_script.specs.PlayScript.{ArePlayable, IsPlayable}
@@ -128,10 +128,10 @@ trace-append told given s t u m n k (x ∷ xs) ys (e ∷ es) fs first next = (
 )
 
 -- no line leads nowhere
-pub plays-none : (told : Bool) (given : Given) (s : Play) (m : Moment)
+pub plays-nowhere : (told : Bool) (given : Given) (s : Play) (m : Moment)
     → PlaysTo told given s m [] s m
 unfolding Trace
-plays-none told given s m = record { entries = []; trace = (refl, refl) }
+plays-nowhere told given s m = record { entries = []; trace = (refl, refl) }
 
 -- one line more
 plays-more : (told : Bool) (given : Given) (s t u : Play) (m n k : Moment) (lines : List PlayLine)
@@ -163,7 +163,7 @@ pub lead-none : (told : Bool) (given : Given) (h : List Event) (jobs : List Plai
     remarks
 lead-none told given h jobs hand remarks m has = record {
   jobs = jobs;
-  plays = plays-none told given (record { history = h; hand = jobs; remarks = remarks }) m;
+  plays = plays-nowhere told given (record { history = h; hand = jobs; remarks = remarks }) m;
   in_hand = has;
 }
 
@@ -271,7 +271,7 @@ stops-at-once told given lines m m' h none same = record {
   count = 0;
   play = start;
   last = m;
-  plays = plays-none told given start m;
+  plays = plays-nowhere told given start m;
   history_is = none;
   stopped = aborted-same told m m' same;
 }
@@ -328,6 +328,34 @@ kept-at-start setup logs told store legal = record {
 }
 
 -- ---- what an answer says
+
+pub played-err : {V E : Type 0} (items : V → List Remark) (told : Bool) (given : Given)
+    (lines : List PlayLine) (m m' : Moment) (h : List Event) (r : Result V E) → IsErr r
+    → StopsIn told given start lines m m' h → IsPlayed items told given lines m m' h r
+played-err items told given lines m m' h (Ok v) is stops = absurd (false-not-true is)
+played-err items told given lines m m' h (Err e) is stops = stops
+
+-- what was left of a play that was played so
+module _ {V E : Type 0} (items : V → List Remark) (told : Bool) (given : Given)
+    (lines : List PlayLine) (m m' m'' : Moment) (h h' : List Event) (r : Result V E)
+    (same : h' ≡ h) (link : m'' ≡ m') where
+  pub left-ok : (v : V) → r ≡ Ok v
+      → (jobs : List PlainJob) × PlaysTo told given start m lines
+      (record { history = h; hand = jobs; remarks = items v }) m'
+      → IsPlayed items told given lines m m'' h' r
+  left-ok v is plays =
+      subst (λ (x : Result V E). IsPlayed items told given lines m m'' h' x) (sym is)
+      (subst (λ (k : List Event). IsPlayed {V = V} {E = E} items told given lines m m'' k (Ok v))
+      (sym same)
+      (subst (λ (n : Moment). IsPlayed {V = V} {E = E} items told given lines m n h (Ok v))
+      (sym link) plays))
+
+  pub left-err : (e : E) → r ≡ Err e → StopsIn told given start lines m m' h
+      → IsPlayed items told given lines m m'' h' r
+  left-err e is stops =
+      subst (λ (x : Result V E). IsPlayed items told given lines m m'' h' x) (sym is)
+      (subst (λ (k : List Event). StopsIn told given start lines m m'' k) (sym same)
+      (subst (λ (n : Moment). StopsIn told given start lines m n h) (sym link) stops))
 
 pub on-err : {T E P : Type 0} (r : Result T E) → P → OnErr r P
 on-err (Ok x) p = tt

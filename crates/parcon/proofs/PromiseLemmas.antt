@@ -1,7 +1,7 @@
 -- The promise from what the steps of a play answered.
-use Rattle.std.proofs.Common.{◌≡◌, ◌⊎◌, inl, inr, ℕ, List, [], ◌++◌, Option, Result, Ok, Err, refl, ap, sym, subst, ◌∙◌}
-use Rattle.std.specs.Prelude.{MatchResult, IfOk}
-use Rattle.std.proofs.lemmas.List.{append-nil}
+use Rattle.std.proofs.Common.{◌≡◌, ◌⊎◌, inl, inr, ℕ, List, [], ◌++◌, length, take, Option, Result, Ok, Err, refl, ap, sym, subst, ◌∙◌, arith}
+use Rattle.std.specs.Prelude.{MatchResult}
+use Rattle.std.proofs.lemmas.List.{append-nil, take_all}
 use Rattle.pc_model.specs.Broker.{Broker}
 use Rattle.pc_offset_client.specs.Client.{kept_for}
 use Rattle.pc_engine.specs.Engine.{given_by}
@@ -15,114 +15,133 @@ use Rattle.pc_laws.specs.Lists.{In}
 use Rattle.pc_laws.proofs.SoundLaw.{is_sound}
 use Rattle.pc_laws.proofs.OrderlyLaw.{is_orderly}
 use Rattle.pc_script.specs.declared.play.PlayLine.{PlayLine}
-use Rattle.pc_task.specs.Jobs.{PlainJob}
 use Rattle.parcon.specs.declared.remark.Remark.{Remark}
 use Rattle.parcon.specs.declared.status.Status.{Status}
 use Rattle.parcon.specs.declared.status.Status.TheVariants.{Whole, NoMemory}
 use Rattle.parcon.specs.Command.{files_of}
 use Rattle.parcon.specs.Reading.{◌>>=◌, FileTexts, IsFromFiles}
 use Rattle.parcon.specs.Plan.{lines_behind, lines_to_play, logs_of, logs_read}
-use Rattle.parcon.specs.Play.{Play, PlaysTo, start}
-use Rattle.parcon.specs.Ending.{ends, ending_of, output_of, play_text, text_with, fault_line}
-use Rattle.parcon.specs.Written.{HasFront, IsWritten}
-use Rattle.parcon.specs.Promise.{Ends, FilesSeen, IsCall, IsKept, Outside, Plays, default_setup, given_of}
-use Rattle.parcon.proofs.WrittenLemmas.{front-none, unchanged}
+use Rattle.parcon.specs.Play.{IsAborted, Moment, IsPlayed, Play, PlaysTo, start}
+use Rattle.parcon.specs.Ending.{fault_line, output_of, play_text, text_with, wanted_status}
+use Rattle.parcon.specs.Written.{HasFront, IsWritten, with_bytes}
+use Rattle.parcon.specs.Promise.{Ends, FilesSeen, IsCall, IsKept, Outside, Plays, default_setup, given_of, link_at}
+use Rattle.parcon.proofs.CallLemmas.{aborted-same}
+use Rattle.parcon.proofs.WrittenLemmas.{front-none, unchanged, with_bytes-none}
 use Rattle.parcon.proofs.ReadingLemmas.{any-answers, status-is}
 use Rattle.parcon.proofs.PlanLemmas.{files-logs, logs-read-are, logs-rise}
-use Rattle.parcon.proofs.PlayLemmas.{kept-at-start}
+use Rattle.parcon.proofs.PlayLemmas.{kept-at-start, plays-nowhere}
 
 whole-no-line : fault_line Whole ≡ []
 unfolding fault_line
 whole-no-line = refl
 
 -- a play that went through has no fault line
-pub play-output : (play : Play) → play_text play
-    ≡ output_of (record { status = Whole; play = play })
+pub play-output : (play : Play) → play_text play ≡ output_of Whole play
 play-output play = sym (ap (λ (x : List ℕ). play_text play ++ x) whole-no-line
     ∙ append-nil (play_text play))
 
 whole-not-memory : Whole ≡ NoMemory → ⊥
 whole-not-memory is = cc
 
--- nothing is written, for want of memory
-unwritten : (before after : Option (List ℕ)) (f f' : ℕ) (text : List ℕ) (given : Status)
-    → given ≡ NoMemory → after ≡ before → IsWritten before after f f' text Whole given
-unwritten before after f f' text given is same = record {
+-- nothing is written when out of memory
+unwritten : (before after : Option (List ℕ)) (f f' : ℕ) (text : List ℕ) (wanted given : Status)
+    → (wanted ≡ NoMemory → text ≡ []) → given ≡ NoMemory → after ≡ before
+    → IsWritten before after f f' text wanted given
+unwritten before after f f' text wanted given empty is same = record {
   status = inr (inr is);
   front = subst (λ (x : Option (List ℕ)). HasFront before x text) (sym same)
       (front-none before text);
-  whole = λ whole. absurd (whole-not-memory (sym whole ∙ is));
+  whole = λ whole. same ∙ sym (with_bytes-none before)
+      ∙ sym (ap (with_bytes before) (empty (sym whole ∙ is)));
 }
+
+none-no-line : (s : Status) → s ≡ NoMemory → output_of s start ≡ []
+unfolding fault_line
+none-no-line s is = ap (λ (x : Status). output_of x start) is
 
 -- ---- how a play ends
 
 module _ (given : Given) (before after : Outside) where
-  -- nothing was played, for want of memory
+  -- nothing was played when out of memory
   pub ends-wanting : (lines : Result (List PlayLine) Status) (status : Status) (h : List Event)
       → status ≡ NoMemory → h ≡ [] → after.written ≡ before.written
-      → Ends given lines before after status h
-  ends-wanting lines status h is none same = record {
-    ending = record { status = Whole; play = start };
-    decided = inl is;
+      → link_at after ≡ link_at before → Ends given lines before after status h
+  ends-wanting lines status h is none same link = record {
+    count = 0;
+    play = start;
+    last = link_at before;
+    plays = plays-nowhere before.is_told given start (link_at before);
     history_is = none;
+    all = λ not. absurd (not is);
+    end = λ not. absurd (not is);
+    stopped = aborted-same before.is_told (link_at before) (link_at after) link;
     output = unwritten before.written after.written before.write_faults after.write_faults
-        (output_of (record { status = Whole; play = start })) status is same;
+        (output_of (wanted_status lines) start) (wanted_status lines) status
+        (none-no-line (wanted_status lines)) is same;
   }
 
-  -- the play did not begin, as the lines say or for want of memory
+  -- the play did not begin, as the lines say or when out of memory
   pub ends-unplayed : (lines : Result (List PlayLine) Status) (s status : Status)
       (h : List Event) → (s ≡ NoMemory) ⊎ (lines ≡ Err s) → h ≡ []
+      → link_at after ≡ link_at before
       → IsWritten before.written after.written before.write_faults after.write_faults
       (fault_line s) s status → (s ≡ NoMemory → status ≡ NoMemory)
       → Ends given lines before after status h
-  ends-unplayed lines s status h (inl wanting) none written memory =
+  ends-unplayed lines s status h (inl wanting) none link written memory =
       ends-wanting lines status h (memory wanting) none
-      (unchanged before.written after.written s wanting written.front)
-  ends-unplayed lines s status h (inr is) none written memory = record {
-    ending = ends s;
-    decided = inr (record {
-      asked = [];
-      causes = tt;
-      decided = ap (λ (l : Result (List PlayLine) Status). ending_of given l []) is;
-    });
-    history_is = none;
-    output = written;
-  }
+      (unchanged before.written after.written s wanting written.front) link
+  ends-unplayed lines s status h (inr is) none link written memory =
+      subst (λ (l : Result (List PlayLine) Status). Ends given l before after status h) (sym is)
+      (record {
+        count = 0;
+        play = start;
+        last = link_at before;
+        plays = plays-nowhere before.is_told given start (link_at before);
+        history_is = none;
+        all = λ not. refl;
+        end = λ not. link;
+        stopped = aborted-same before.is_told (link_at before) (link_at after) link;
+        output = written;
+      })
 
   -- the play went through, or memory ran out in it
   pub ends-played : {V E : Type 0} (items : V → List Remark) (lines : List PlayLine)
-      (remarks : Result V E) (status : Status) (h h' : List Event)
-      → IfOk remarks (λ r. (jobs : List PlainJob)
-      × PlaysTo given start lines before.link_faults after.link_faults
-      (record { history = h'; hand = jobs; remarks = items r }))
-      → h ≡ h'
+      (remarks : Result V E) (status : Status) (h h' : List Event) (last : Moment)
+      → IsPlayed items before.is_told given lines (link_at before) last h' remarks
+      → h ≡ h' → link_at after ≡ last
       → MatchResult remarks
       (λ r. IsWritten before.written after.written before.write_faults after.write_faults
       (text_with h' (items r)) Whole status)
       (λ e. (status ≡ NoMemory) × (after.written ≡ before.written))
       → Ends given (Ok lines) before after status h
-  ends-played items lines (Ok r) status h h' plays same written = record {
-    ending = record {
-      status = Whole;
-      play = record { history = h'; hand = plays.0; remarks = items r };
-    };
-    decided = inr (record {
-      asked = plays.1.asked;
-      causes = plays.1.causes;
-      decided = ap (λ (p : Play). record { status = Whole; play = p }) plays.1.end;
-    });
+  ends-played items lines (Ok r) status h h' last plays same link written = record {
+    count = length lines;
+    play = record { history = h'; hand = plays.0; remarks = items r };
+    last = last;
+    plays = subst (λ (l : List PlayLine). PlaysTo before.is_told given start (link_at before) l
+        (record { history = h'; hand = plays.0; remarks = items r }) last)
+        (sym (take_all (length lines) lines (omega arith))) plays.1;
     history_is = same;
+    all = λ not. take_all (length lines) lines (omega arith);
+    end = λ not. link;
+    stopped = aborted-same before.is_told last (link_at after) link;
     output = subst (λ (t : List ℕ). IsWritten before.written after.written before.write_faults
         after.write_faults t Whole status)
         (play-output (record { history = h'; hand = plays.0; remarks = items r })) written;
   }
-  ends-played items lines (Err e) status h h' plays same written = record {
-    ending = record { status = Whole; play = record { history = h'; hand = []; remarks = [] } };
-    decided = inl written.0;
-    history_is = same;
+  ends-played items lines (Err e) status h h' last stops same link written = record {
+    count = stops.count;
+    play = stops.play;
+    last = stops.last;
+    plays = stops.plays;
+    history_is = same ∙ stops.history_is;
+    all = λ not. absurd (not written.0);
+    end = λ not. absurd (not written.0);
+    stopped = subst (λ (m : Moment). IsAborted before.is_told stops.last m) (sym link)
+        stops.stopped;
     output = unwritten before.written after.written before.write_faults after.write_faults
-        (output_of (record { status = Whole; play = record { history = h'; hand = []; remarks = [] } }))
-        status written.0 written.1;
+        (output_of Whole stops.play) Whole status (λ is. absurd (whole-not-memory is)) written.0
+        written.1;
   }
 
 -- ---- from what a play keeps
@@ -148,7 +167,7 @@ plays-kept given lines before after status h h' is same ends =
 pub plays-none : (setup : Setup) (logs : List (Option (List Record)))
     (lines : Result (List PlayLine) Status) (before after : Outside) (s status : Status)
     (h : List Event) → IsLegal (given_by setup logs [] before.is_told (kept_for before.store)) []
-    → after.store ≡ before.store → (s ≡ NoMemory) ⊎ (lines ≡ Err s) → h ≡ []
+    → link_at after ≡ link_at before → (s ≡ NoMemory) ⊎ (lines ≡ Err s) → h ≡ []
     → IsWritten before.written after.written before.write_faults after.write_faults
     (fault_line s) s status → (s ≡ NoMemory → status ≡ NoMemory)
     → Plays (given_by setup logs [] before.is_told (kept_for before.store)) lines before after
@@ -157,10 +176,10 @@ plays-none setup logs lines before after s status h legal same is none written m
     plays-kept (given_by setup logs [] before.is_told (kept_for before.store)) lines before after
     status h []
     (subst (λ (b : Broker). IsKept (given_by setup logs [] before.is_told (kept_for before.store))
-    before.store b []) (sym same) (kept-at-start setup logs before.is_told before.store legal))
+    before.store b []) (sym (ap (λ (m : Moment). m.store) same)) (kept-at-start setup logs before.is_told before.store legal))
     none
     (ends-unplayed (given_by setup logs [] before.is_told (kept_for before.store)) before after
-    lines s status h is none written memory)
+    lines s status h is none same written memory)
 
 -- a play with the same setup, logs and lines
 pub plays-along : (setup setup' : Setup) (logs logs' : List (Option (List Record)))
@@ -212,7 +231,7 @@ module _ (words : List (List ℕ)) (files files' : FilesSeen) (before after : Ou
   pub call-unplayed : {A : Type 0} (s status : Status) (h : List Event)
       → ◌≡◌ {A = Result A Status} (Err s) (Err NoMemory)
       ⊎ IsFromFiles words files.contents files.faults files'.faults (Err s)
-      → after.store ≡ before.store → h ≡ []
+      → link_at after ≡ link_at before → h ≡ []
       → IsWritten before.written after.written before.write_faults after.write_faults
       (fault_line s) s status → (s ≡ NoMemory → status ≡ NoMemory)
       → IsCall words files files' before after status h

@@ -22,7 +22,7 @@ with_bytes-more : (told : Option (List ℕ)) (a b : List ℕ)
 with_bytes-more None a b = refl
 with_bytes-more (Some w) a b = ap (λ (x : List ℕ). Some x) (append_assoc w a b)
 
-with_bytes-none : (told : Option (List ℕ)) → with_bytes told [] ≡ told
+pub with_bytes-none : (told : Option (List ℕ)) → with_bytes told [] ≡ told
 with_bytes-none None = refl
 with_bytes-none (Some w) = ap (λ (x : List ℕ). Some x) (append-nil w)
 

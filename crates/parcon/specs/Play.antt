@@ -275,10 +275,10 @@ pub record StopsIn (told : Bool) (given : Given) (s : Play) (lines : List PlayLi
   pub stopped : IsAborted told last after
 
 -- what a play of these lines left: all were played, or memory ran out in it
-abbrev pub Played : {V E : Type 0} → (V → List Remark) → Bool → Given → List PlayLine → Moment
+abbrev pub IsPlayed : {V E : Type 0} → (V → List Remark) → Bool → Given → List PlayLine → Moment
     → Moment → List Event → Result V E → Type 0
-Played items told given lines before after h (Ok remarks) = (jobs : List PlainJob)
+IsPlayed items told given lines before after h (Ok remarks) = (jobs : List PlainJob)
     × PlaysTo told given start before lines
     (record { history = h; hand = jobs; remarks = items remarks }) after
-Played items told given lines before after h (Err error) =
+IsPlayed items told given lines before after h (Err error) =
     StopsIn told given start lines before after h

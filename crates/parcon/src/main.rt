@@ -51,7 +51,7 @@ fn main(rt: HostRuntime) -> ExitCode {
 fn run(rt: &HostRuntime) -> Result<u8, AllocError> {
     let words = words(rt)?;
     let link = OffsetBroker::new(rt.alloc(), TOPIC, PARTS)?;
-    let mut files = DiskFiles::new(rt);
+    let mut files = DiskFiles::new(rt.alloc(), rt);
     let mut out = StdSink::new(rt);
     let ended = offline(rt.alloc(), &words, &mut files, link, &mut out);
     Ok(ended.status.number())

@@ -9,7 +9,7 @@ ghost use Rattle.pc_task.specs.Jobs.{PlainJob};
 ghost use Rattle.pc_engine.specs.Effect.{StoresOnly};
 ghost use Rattle.pc_engine.specs.Engine.{given_by};
 ghost use Rattle.parcon.specs.Hand.{HasInHand};
-ghost use Rattle.parcon.specs.Play.{Breaks, LeadTo, LeadsTo, Played, StopsIn, moment};
+ghost use Rattle.parcon.specs.Play.{Breaks, IsPlayed, LeadTo, LeadsTo, StopsIn, moment};
 ghost use Rattle.parcon.specs.Promise.{IsKept};
 
 use crate::calls::call;
@@ -113,7 +113,7 @@ fn play_on<L: Link>(alloc: Global, mut engine: Engine<'_, L>, lines: &[PlayLine]
     requires playable { ArePlayable lines.now }
     ensures kept { IsKept engine.entry.given (L.store engine.entry.link) (L.store result.link)
         result.journal.events }
-    ensures played { Played (λ remarks. remarks.items) (L.is_told engine.entry.link)
+    ensures played { IsPlayed (λ remarks. remarks.items) (L.is_told engine.entry.link)
         engine.entry.given lines.now
         (moment (L.store engine.entry.link) (L.faults engine.entry.link))
         (moment (L.store result.link) (L.faults result.link)) result.journal.events result.remarks }
@@ -160,7 +160,7 @@ pub(crate) fn play<L: Link>(
     ensures kept { let given = given_by setup.now logs.now [] (L.is_told link) (kept_for (L.store link)) in
         IsKept given (L.store link) (L.store result.link) result.journal.events }
     ensures played { let given = given_by setup.now logs.now [] (L.is_told link) (kept_for (L.store link)) in
-        Played (λ remarks. remarks.items) (L.is_told link) given lines.now
+        IsPlayed (λ remarks. remarks.items) (L.is_told link) given lines.now
         (moment (L.store link) (L.faults link))
         (moment (L.store result.link) (L.faults result.link)) result.journal.events result.remarks }
 {
@@ -174,7 +174,7 @@ pub(crate) fn play<L: Link>(
 fn unplayed<L: Link>(alloc: Global, link: L) -> Played<L>
     ensures link { result.link ≡ link }
     ensures journal { result.journal.events ≡ [] }
-    ensures remarks { result.remarks ≡ Err AllocError }
+    ensures remarks { IsErr result.remarks }
 {
     Played {
         remarks: Err(AllocError),

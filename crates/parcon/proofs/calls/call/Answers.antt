@@ -1,4 +1,4 @@
--- A line that is not built makes no call.
+-- Each call does what its line asks for; a line that is not built makes none.
 use Rattle.std.proofs.Common.{refl, arith}
 use Rattle.parcon.specs.Play.{moment}
 use Rattle.parcon.proofs.CallLemmas.{none-made}
@@ -18,3 +18,27 @@ returns-in_default g c = record {
   told = refl;
   count = omega arith;
 }
+
+pub returns-in-Assign-clause-effect : goal.returns-in-Assign-clause-effect
+returns-in-Assign-clause-effect g c =
+    rw c.in-Assign.is (c.assign.ensures.effect c.args.hand.now)
+
+pub returns-in-Commit-clause-effect : goal.returns-in-Commit-clause-effect
+returns-in-Commit-clause-effect g c =
+    rw c.in-Commit.is (c.commit.ensures.effect c.args.hand.now)
+
+pub returns-in-Poll-clause-effect : goal.returns-in-Poll-clause-effect
+returns-in-Poll-clause-effect g c =
+    rw c.in-Poll.is (c.poll.ensures.effect c.args.hand.now)
+
+pub returns-in-Revoke-clause-effect : goal.returns-in-Revoke-clause-effect
+returns-in-Revoke-clause-effect g c =
+    rw c.in-Revoke.is (c.revoke.ensures.effect c.args.hand.now)
+
+pub returns-in-Lose-clause-effect : goal.returns-in-Lose-clause-effect
+returns-in-Lose-clause-effect g c =
+    rw c.in-Lose.is (c.lose.ensures.effect c.args.hand.now)
+
+pub returns-in-Crash-clause-effect : goal.returns-in-Crash-clause-effect
+returns-in-Crash-clause-effect g c =
+    rw c.in-Crash.is (c.crash.ensures.effect c.args.hand.now)

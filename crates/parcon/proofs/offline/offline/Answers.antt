@@ -1,6 +1,7 @@
 -- The files were read, or not.
 use Rattle.std.proofs.Common.{ap, map}
 use Rattle.std.specs.Prelude.{string_bytes}
+use Rattle.parcon.specs.Play.{moment}
 use Rattle.parcon.specs.Reading.{texts_of}
 use Rattle.parcon.proofs.ReadingLemmas.{was-read}
 use Rattle.parcon.proofs.PromiseLemmas.{call-played, call-unplayed}
@@ -60,5 +61,5 @@ returns-in-Err g c =
       write_faults = g.O.Sink.faults c.unplayed.new.out;
     })
     c.in-Err.status c.unplayed.result.status c.unplayed.result.journal.events
-    c.in-Err.ensures.texts (ap g.L.Link.store c.unplayed.ensures.link)
+    c.in-Err.ensures.texts (ap (λ l. moment (g.L.Link.store l) (g.L.Link.faults l)) c.unplayed.ensures.link)
     c.unplayed.ensures.journal c.unplayed.ensures.written c.unplayed.ensures.memory

@@ -1,6 +1,7 @@
 -- The plan is played, or there is none.
 use Rattle.std.proofs.Common.{Ok, ap, map}
 use Rattle.pc_model.specs.declared.setup.Setup.{Setup}
+use Rattle.parcon.specs.Play.{moment}
 use Rattle.parcon.specs.Reading.{text_of, texts_of}
 use Rattle.parcon.specs.Plan.{lines_behind, logs_of}
 use Rattle.parcon.specs.Promise.{default_setup}
@@ -59,6 +60,6 @@ returns-in-Err g c =
     })
     c.in-Err.status c.unplayed.result.status c.unplayed.result.journal.events
     (texts-rise (map text_of c.args.texts.now.logs.items))
-    (ap g.L.Link.store c.unplayed.ensures.link)
+    (ap (λ l. moment (g.L.Link.store l) (g.L.Link.faults l)) c.unplayed.ensures.link)
     (status-of (lines_behind (texts_of c.args.texts.now)) c.in-Err.status c.in-Err.ensures.lines)
     c.unplayed.ensures.journal c.unplayed.ensures.written c.unplayed.ensures.memory

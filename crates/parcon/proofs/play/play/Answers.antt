@@ -4,9 +4,9 @@ use Rattle.pc_model.specs.Given.{Given}
 use Rattle.pc_model.specs.declared.event.Event.{Event}
 use Rattle.pc_offset_client.specs.Client.{kept_for}
 use Rattle.pc_engine.specs.Engine.{given_by}
-use Rattle.parcon.specs.Play.{Played, moment}
+use Rattle.parcon.specs.Play.{IsPlayed, moment}
 use Rattle.parcon.specs.Promise.{IsKept}
-use Rattle.parcon.proofs.PlayLemmas.{kept-at-start, stops-at-once}
+use Rattle.parcon.proofs.PlayLemmas.{kept-at-start, played-err, stops-at-once}
 use Rattle.parcon.proofs.play.play.Goals as goal
 
 pub returns-in-Ok-clause-kept : goal.returns-in-Ok-clause-kept
@@ -19,11 +19,11 @@ returns-in-Ok-clause-kept g c =
 
 pub returns-in-Ok-clause-played : goal.returns-in-Ok-clause-played
 returns-in-Ok-clause-played g c =
-    subst (λ (given : Given). Played (λ remarks. remarks.items) (g.L.Link.is_told c.args.link)
+    subst (λ (given : Given). IsPlayed (λ remarks. remarks.items) (g.L.Link.is_told c.args.link)
     given c.args.lines.now (moment (g.L.Link.store c.args.link) (g.L.Link.faults c.args.link))
     (moment (g.L.Link.store c.play_on.result.link) (g.L.Link.faults c.play_on.result.link))
     c.play_on.result.journal.events c.play_on.result.remarks) c.in-Ok.ensures.given
-    (subst (λ l. Played (λ remarks. remarks.items) (g.L.Link.is_told l)
+    (subst (λ l. IsPlayed (λ remarks. remarks.items) (g.L.Link.is_told l)
     c.in-Ok.engine.given c.args.lines.now (moment (g.L.Link.store l) (g.L.Link.faults l))
     (moment (g.L.Link.store c.play_on.result.link) (g.L.Link.faults c.play_on.result.link))
     c.play_on.result.journal.events c.play_on.result.remarks) c.in-Ok.ensures.link
@@ -31,12 +31,12 @@ returns-in-Ok-clause-played g c =
 
 pub returns-in-Err-clause-played : goal.returns-in-Err-clause-played
 returns-in-Err-clause-played g c =
-    subst (λ r. Played (λ remarks. remarks.items) (g.L.Link.is_told c.args.link)
+    played-err (λ remarks. remarks.items) (g.L.Link.is_told c.args.link)
     (given_by c.args.setup.now c.args.logs.now [] (g.L.Link.is_told c.args.link)
     (kept_for (g.L.Link.store c.args.link))) c.args.lines.now
     (moment (g.L.Link.store c.args.link) (g.L.Link.faults c.args.link))
     (moment (g.L.Link.store c.unplayed.result.link) (g.L.Link.faults c.unplayed.result.link))
-    c.unplayed.result.journal.events r) (sym c.unplayed.ensures.remarks)
+    c.unplayed.result.journal.events c.unplayed.result.remarks c.unplayed.ensures.remarks
     (stops-at-once (g.L.Link.is_told c.args.link)
     (given_by c.args.setup.now c.args.logs.now [] (g.L.Link.is_told c.args.link)
     (kept_for (g.L.Link.store c.args.link))) c.args.lines.now

@@ -1,8 +1,8 @@
 -- From the start on the lines are played, and what the link keeps is as before but for the part.
-use Rattle.std.proofs.Common.{◌≡◌, Ok, Err, List, Result, sym, subst}
+use Rattle.std.proofs.Common.{ap}
 use Rattle.pc_model.specs.History.{History}
-use Rattle.parcon.specs.Play.{Played, moment}
-use Rattle.parcon.proofs.PlayLemmas.{kept-from, lead-from-start, stops-from-start}
+use Rattle.parcon.specs.Play.{moment}
+use Rattle.parcon.proofs.PlayLemmas.{kept-from, lead-from-start, left-err, left-ok, stops-from-start}
 use Rattle.parcon.proofs.play.play_on.Goals as goal
 
 pub returns-in-Ok-clause-kept : goal.returns-in-Ok-clause-kept
@@ -21,22 +21,16 @@ returns-in-Err-clause-kept g c = kept-from c.args.engine.given c.play_lines-play
 
 pub returns-in-Ok-clause-played : goal.returns-in-Ok-clause-played
 returns-in-Ok-clause-played g c =
-    subst (λ r. Played (λ remarks. remarks.items) (g.L.Link.is_told c.args.engine.link)
-    c.args.engine.given c.args.lines.now
+    left-ok (λ remarks. remarks.items) (g.L.Link.is_told c.args.engine.link) c.args.engine.given
+    c.args.lines.now
     (moment (g.L.Link.store c.args.engine.link) (g.L.Link.faults c.args.engine.link))
+    (moment (g.L.Link.store c.play_lines-played.new.engine.link)
+    (g.L.Link.faults c.play_lines-played.new.engine.link))
     (moment (g.L.Link.store c.left.result.link) (g.L.Link.faults c.left.result.link))
-    c.left.result.journal.events r) (sym c.left.ensures.remarks)
-    (subst (λ (h : History). Played (λ remarks. remarks.items)
-    (g.L.Link.is_told c.args.engine.link) c.args.engine.given c.args.lines.now
-    (moment (g.L.Link.store c.args.engine.link) (g.L.Link.faults c.args.engine.link))
-    (moment (g.L.Link.store c.left.result.link) (g.L.Link.faults c.left.result.link))
-    h.events (Ok c.play_lines-played.new.remarks)) (sym c.left.ensures.journal)
-    (subst (λ l. Played (λ remarks. remarks.items)
-    (g.L.Link.is_told c.args.engine.link) c.args.engine.given c.args.lines.now
-    (moment (g.L.Link.store c.args.engine.link) (g.L.Link.faults c.args.engine.link))
-    (moment (g.L.Link.store l) (g.L.Link.faults l))
-    c.play_lines-played.new.engine.journal.events (Ok c.play_lines-played.new.remarks))
-    (sym c.left.ensures.link)
+    c.play_lines-played.new.engine.journal.events c.left.result.journal.events
+    c.left.result.remarks (ap (λ (h : History). h.events) c.left.ensures.journal)
+    (ap (λ l. moment (g.L.Link.store l) (g.L.Link.faults l)) c.left.ensures.link)
+    c.play_lines-played.new.remarks c.left.ensures.remarks
     (lead-from-start (g.L.Link.is_told c.args.engine.link) c.args.engine.given
     c.args.engine.journal.events c.new-remarks.result.items c.args.lines.now
     (moment (g.L.Link.store c.args.engine.link) (g.L.Link.faults c.args.engine.link))
@@ -44,30 +38,24 @@ returns-in-Ok-clause-played g c =
     (g.L.Link.faults c.play_lines-played.new.engine.link))
     c.play_lines-played.new.engine.journal.events c.new-hand.result c.requires.empty
     c.new-remarks.ensures.items c.new-hand.ensures c.play_lines-played.new.hand
-    c.play_lines-played.new.remarks.items c.in-Ok.ensures.ok)))
+    c.play_lines-played.new.remarks.items c.in-Ok.ensures.ok)
 
 pub returns-in-Err-clause-played : goal.returns-in-Err-clause-played
 returns-in-Err-clause-played g c =
-    subst (λ r. Played (λ remarks. remarks.items) (g.L.Link.is_told c.args.engine.link)
-    c.args.engine.given c.args.lines.now
+    left-err (λ remarks. remarks.items) (g.L.Link.is_told c.args.engine.link) c.args.engine.given
+    c.args.lines.now
     (moment (g.L.Link.store c.args.engine.link) (g.L.Link.faults c.args.engine.link))
+    (moment (g.L.Link.store c.play_lines-played.new.engine.link)
+    (g.L.Link.faults c.play_lines-played.new.engine.link))
     (moment (g.L.Link.store c.left-in-Err.result.link) (g.L.Link.faults c.left-in-Err.result.link))
-    c.left-in-Err.result.journal.events r) (sym c.left-in-Err.ensures.remarks)
-    (subst (λ (h : History). Played (λ remarks. remarks.items)
-    (g.L.Link.is_told c.args.engine.link) c.args.engine.given c.args.lines.now
-    (moment (g.L.Link.store c.args.engine.link) (g.L.Link.faults c.args.engine.link))
-    (moment (g.L.Link.store c.left-in-Err.result.link) (g.L.Link.faults c.left-in-Err.result.link))
-    h.events (Err c.in-Err.fault)) (sym c.left-in-Err.ensures.journal)
-    (subst (λ l. Played (λ remarks. remarks.items)
-    (g.L.Link.is_told c.args.engine.link) c.args.engine.given c.args.lines.now
-    (moment (g.L.Link.store c.args.engine.link) (g.L.Link.faults c.args.engine.link))
-    (moment (g.L.Link.store l) (g.L.Link.faults l))
-    c.play_lines-played.new.engine.journal.events (Err c.in-Err.fault))
-    (sym c.left-in-Err.ensures.link)
+    c.play_lines-played.new.engine.journal.events c.left-in-Err.result.journal.events
+    c.left-in-Err.result.remarks (ap (λ (h : History). h.events) c.left-in-Err.ensures.journal)
+    (ap (λ l. moment (g.L.Link.store l) (g.L.Link.faults l)) c.left-in-Err.ensures.link)
+    c.in-Err.fault c.left-in-Err.ensures.remarks
     (stops-from-start (g.L.Link.is_told c.args.engine.link) c.args.engine.given
     c.args.engine.journal.events c.new-remarks.result.items c.args.lines.now
     (moment (g.L.Link.store c.args.engine.link) (g.L.Link.faults c.args.engine.link))
     (moment (g.L.Link.store c.play_lines-played.new.engine.link)
     (g.L.Link.faults c.play_lines-played.new.engine.link))
     c.play_lines-played.new.engine.journal.events c.new-hand.result c.requires.empty
-    c.new-remarks.ensures.items c.new-hand.ensures c.in-Err.ensures.err)))
+    c.new-remarks.ensures.items c.new-hand.ensures c.in-Err.ensures.err)

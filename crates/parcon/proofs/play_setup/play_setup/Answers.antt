@@ -1,11 +1,9 @@
 -- What the play left is told.
-use Rattle.std.proofs.Common.{Ok, [], List, sym, subst}
+use Rattle.std.proofs.Common.{Ok, [], List, ap, sym, subst}
 use Rattle.pc_script.specs.declared.play.PlayLine.{PlayLine}
-use Rattle.pc_task.specs.Jobs.{PlainJob}
-use Rattle.std.specs.Prelude.{IfOk}
 use Rattle.pc_offset_client.specs.Client.{kept_for}
 use Rattle.pc_engine.specs.Engine.{given_by}
-use Rattle.parcon.specs.Play.{PlaysTo, start}
+use Rattle.parcon.specs.Play.{IsPlayed, moment}
 use Rattle.parcon.specs.Promise.{IsKept}
 use Rattle.parcon.proofs.PromiseLemmas.{ends-played, plays-kept}
 use Rattle.parcon.proofs.play_setup.play_setup.Goals as goal
@@ -50,20 +48,13 @@ returns g c =
     })
     (λ remarks. remarks.items) c.args.script.now c.play-played.result.remarks c.tell.result.status
     c.tell.result.journal.events c.play-played.result.journal.events
-    (subst (λ l. IfOk c.play-played.result.remarks (λ remarks. (jobs : List PlainJob)
-    × PlaysTo given start c.args.script.now (g.L.Link.faults c.args.link) (g.L.Link.faults l)
-    (record {
-      history = c.play-played.result.journal.events;
-      hand = jobs;
-      remarks = remarks.items;
-    })))
-    (sym c.tell.ensures.link)
-    (subst (λ (lines : List PlayLine). IfOk c.play-played.result.remarks (λ remarks. (jobs : List PlainJob)
-    × PlaysTo given start lines (g.L.Link.faults c.args.link)
-    (g.L.Link.faults c.play-played.result.link)
-    (record {
-      history = c.play-played.result.journal.events;
-      hand = jobs;
-      remarks = remarks.items;
-    }))) c.as_slice.ensures.lines c.play-played.ensures.played))
-    c.tell.ensures.journal c.tell.ensures.written)
+    (moment (g.L.Link.store c.play-played.result.link) (g.L.Link.faults c.play-played.result.link))
+    (subst (λ (lines : List PlayLine). IsPlayed (λ remarks. remarks.items)
+    (g.L.Link.is_told c.args.link) given lines
+    (moment (g.L.Link.store c.args.link) (g.L.Link.faults c.args.link))
+    (moment (g.L.Link.store c.play-played.result.link) (g.L.Link.faults c.play-played.result.link))
+    c.play-played.result.journal.events c.play-played.result.remarks) c.as_slice.ensures.lines
+    c.play-played.ensures.played)
+    c.tell.ensures.journal
+    (ap (λ l. moment (g.L.Link.store l) (g.L.Link.faults l)) c.tell.ensures.link)
+    c.tell.ensures.written)
