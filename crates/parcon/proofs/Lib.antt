@@ -8,3 +8,4 @@ mod HandLemmas
 mod CallLemmas
 mod PlayLemmas
 mod PromiseLemmas
+mod ToldLemmas

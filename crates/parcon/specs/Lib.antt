@@ -7,3 +7,4 @@ pub mod LogFault
 pub mod Ending
 pub mod Written
 pub mod Promise
+pub mod Told

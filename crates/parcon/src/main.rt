@@ -7,6 +7,7 @@ mod calls;
 mod command;
 mod fault_line;
 mod hand;
+mod laws;
 mod log_fault;
 mod offline;
 mod output;

@@ -1,0 +1,165 @@
+-- The play over files and a link that tell what they hold, where nothing fails: its inputs alone
+-- decide it.
+use Rattle.std.specs.Prelude.{ℕ, ◌≡◌, ◌+◌, ◌&&◌, Bool, true, false, List, [], ◌∷◌, map, Option, Some, None, Result, Ok, Err, if◌then◌else◌, is_none, nat_lt, length, pos}
+use Rattle.std.specs.List.{AllByRecursion}
+use Rattle.std.specs.Ordering.{int_eq}
+use Rattle.pc_model.specs.declared.commit.Commit.{Commit as StoredCommit}
+use Rattle.pc_model.specs.declared.event.Event.{Event}
+use Rattle.pc_model.specs.declared.api.TheConstants.{NO_ERROR, UNKNOWN_TOPIC_OR_PARTITION}
+use Rattle.pc_model.specs.Broker.{Broker, has_part}
+use Rattle.pc_model.specs.Given.{Given, no_commit}
+use Rattle.pc_model.specs.Known.{commit_of}
+use Rattle.pc_world.specs.World.{HasRisen}
+use Rattle.pc_offset_client.specs.declared.fault.ClientFault.TheVariants.{LinkFailed, Refused}
+use Rattle.pc_offset_client.specs.Client.{TOPIC, commit_code, kept_for, with_commit}
+use Rattle.pc_engine.specs.declared.fault.EngineFault.{EngineFault}
+use Rattle.pc_engine.specs.Effect.{assign_refusal, commit_refusal, revoke_refusal}
+use Rattle.pc_script.specs.declared.play.PlayAct.{PlayAct}
+use Rattle.pc_script.specs.declared.play.PlayAct.TheVariants.{Assign, Commit, Revoke}
+use Rattle.pc_script.specs.declared.play.PlayLine.{PlayLine}
+use Rattle.parcon.specs.declared.status.Status.{Status}
+use Rattle.parcon.specs.Command.{PlayFiles, files_of}
+use Rattle.parcon.specs.Reading.{ReadAnswer, Reads}
+use Rattle.parcon.specs.Reading.ReadAnswer.{Bytes, TooLong}
+use Rattle.parcon.specs.Plan.{lines_to_play, logs_read}
+use Rattle.parcon.specs.Play.{Asked, Entry, Play, after_line, start}
+use Rattle.parcon.specs.Ending.{lines_in, output_of, wanted_status}
+use Rattle.parcon.specs.Written.{with_bytes}
+use Rattle.parcon.specs.Promise.{FilesSeen, Outside, given_of}
+
+-- ---- the files
+
+-- what a read of a file with these contents answers, and of one that does not tell them no bytes
+abbrev pub told_answer : Option (List ℕ) → ReadAnswer
+told_answer None = Bytes []
+told_answer (Some contents) =
+    if nat_lt 268_435_456 (length contents) then TooLong else Bytes contents
+
+-- what the reads of the files answer that the words name
+abbrev pub told_reads : List (List ℕ) → (List ℕ → Option (List ℕ)) → Reads
+told_reads words contents = record {
+  logs = map (λ name. record { name = name; answer = told_answer (contents name) })
+      (files_of words).logs;
+  script = told_answer (contents (files_of words).script);
+}
+
+-- a file tells what it holds
+abbrev pub IsTold : Option (List ℕ) → Type 0
+IsTold told = is_none told ≡ false
+
+-- so do those of a play
+abbrev pub AreTold : Option PlayFiles → (List ℕ → Option (List ℕ)) → Type 0
+AreTold None contents = Unit {0}
+AreTold (Some files) contents =
+    AllByRecursion (λ name. IsTold (contents name)) files.logs × IsTold (contents files.script)
+
+-- ---- the link
+
+-- the broker's answer to a fetch for the part
+abbrev pub fetched_from : Broker → ℕ → Asked
+fetched_from b p = if has_part b TOPIC (pos p) then Ok (kept_for b p)
+    else Err (Refused UNKNOWN_TOPIC_OR_PARTITION)
+
+-- whether the broker accepts a commit for the part
+abbrev pub is_accepted : Broker → ℕ → StoredCommit → Bool
+is_accepted b p c = int_eq (commit_code b p c) NO_ERROR
+
+-- its answer to that commit, and what it stores then
+abbrev pub stored_by : Broker → ℕ → StoredCommit → Asked
+stored_by b p c = if is_accepted b p c then Ok no_commit else Err (Refused (commit_code b p c))
+
+abbrev pub store_with : Broker → ℕ → StoredCommit → Broker
+store_with b p c = if is_accepted b p c then with_commit b p c else b
+
+-- what the broker stores after a call, unless that is refused
+abbrev pub store_unless : Option EngineFault → Broker → Broker → Broker
+store_unless (Some fault) before after = before
+store_unless None before after = after
+
+-- the broker's answer to the call of a line: where nothing is asked it counts for nothing
+abbrev pub answer_told : Given → List Event → PlayAct → Broker → Asked
+answer_told given h (Assign p) b = fetched_from b p
+answer_told given h (Commit p) b = stored_by b p (commit_of given h p).commit
+answer_told given h (Revoke p) b = stored_by b p (commit_of given h p).commit
+answer_told given h act b = Ok no_commit
+
+-- what it stores after that line
+abbrev pub store_told : Given → List Event → PlayAct → Broker → Broker
+store_told given h (Commit p) b =
+    store_unless (commit_refusal given h p) b (store_with b p (commit_of given h p).commit)
+store_told given h (Revoke p) b =
+    store_unless (revoke_refusal given h p) b (store_with b p (commit_of given h p).commit)
+store_told given h act b = b
+
+-- ---- the play
+
+-- where a play stands, and what the broker stores
+pub record ToldPlay : Type 0 where
+  pub play : Play
+  pub store : Broker
+
+-- where these lines lead
+unfoldable pub told_play : Given → Play → Broker → List PlayLine → ToldPlay
+told_play given s b [] = record { play = s; store = b }
+told_play given s b (line ∷ lines) =
+    told_play given (after_line given s line (answer_told given s.history line.act b))
+    (store_told given s.history line.act b) lines
+
+-- ---- a whole call
+
+-- no count of faults rose in a call
+pub record IsFaultless (files files' : FilesSeen) (before after : Outside) : Type 0 where
+  pub reads : (name : List ℕ) → HasRisen (files.faults name) (files'.faults name) → ⊥
+  pub calls : HasRisen before.link_faults after.link_faults → ⊥
+  pub writes : HasRisen before.write_faults after.write_faults → ⊥
+
+-- the lines of a call, the given of its play, and where they lead
+abbrev pub told_lines : List (List ℕ) → FilesSeen → Result (List PlayLine) Status
+told_lines words files = lines_to_play words (told_reads words files.contents)
+
+abbrev pub told_given : List (List ℕ) → FilesSeen → Broker → Given
+told_given words files store =
+    given_of (logs_read (told_reads words files.contents).logs) true store
+
+abbrev pub told_end : List (List ℕ) → FilesSeen → Broker → ToldPlay
+told_end words files store =
+    told_play (told_given words files store) start store (lines_in (told_lines words files))
+
+-- a call ended as its inputs alone decide
+pub record IsToldCall (words : List (List ℕ)) (files : FilesSeen) (before after : Outside)
+    (status : Status) (history : List Event) : Type 0 where
+  pub status_is : status ≡ wanted_status (told_lines words files)
+  pub history_is : history ≡ (told_end words files before.store).play.history
+  pub store_is : after.store ≡ (told_end words files before.store).store
+  pub written_is : after.written ≡ with_bytes before.written (output_of
+      (wanted_status (told_lines words files)) (told_end words files before.store).play)
+
+-- two calls ended in the same way
+pub record EndsAlike (after after' : Outside) (status status' : Status)
+    (history history' : List Event) : Type 0 where
+  pub status_is : status ≡ status'
+  pub history_is : history ≡ history'
+  pub store_is : after.store ≡ after'.store
+  pub written_is : after.written ≡ after'.written
+
+-- ---- how often the link failed
+
+-- whether a line's call asks the link
+abbrev pub asks_link : Given → List Event → PlayAct → Bool
+asks_link given h (Assign p) = is_none (assign_refusal given h p)
+asks_link given h (Commit p) = is_none (commit_refusal given h p)
+asks_link given h (Revoke p) = is_none (revoke_refusal given h p)
+asks_link given h act = false
+
+-- whether the client answered that the link failed
+abbrev pub has_failed : Asked → Bool
+has_failed (Err LinkFailed) = true
+has_failed asked = false
+
+-- how many of these lines' calls were answered so
+unfoldable pub failure_count : Given → Play → List PlayLine → List Entry → ℕ
+failure_count given s [] entries = 0
+failure_count given s (line ∷ lines) [] = 0
+failure_count given s (line ∷ lines) (e ∷ entries) =
+    (if asks_link given s.history line.act && has_failed e.asked then 1 else 0)
+    + failure_count given (after_line given s line e.asked) lines entries
