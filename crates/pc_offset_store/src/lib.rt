@@ -6,11 +6,13 @@ mod broker;
 mod commits;
 mod entries;
 mod fault;
+mod laws;
 mod members;
 mod verdict;
 
 pub use broker::OffsetBroker;
 pub use fault::BrokerFault;
+pub use laws::the_store_is_the_fold_of_its_frames;
 pub use members::MemberId;
 
 #[cfg(test)]
