@@ -32,11 +32,7 @@ use std::process::ExitCode;
 const PARTS: u32 = 1_024;
 
 #[cfg(test)]
-mod epochs_tests;
-#[cfg(test)]
-mod jobs_tests;
-#[cfg(test)]
-mod logs_tests;
+mod setup_tests;
 #[cfg(test)]
 mod tests;
 

@@ -1,4 +1,5 @@
-//! Plays with the outside in memory.
+//! Plays over an outside in memory whose reads, calls of the link and writes fail, over a broker
+//! that stores something, and over a link that tells nothing. `cases/` has all other plays.
 
 use crate::offline::offline;
 use crate::play_setup::Ended;
@@ -11,45 +12,6 @@ use std::test::Fail;
 
 /// More than any output of these tests.
 pub(crate) const ROOM: u64 = 1024;
-
-/// A log, a script, the output of the play and the number of its status.
-type Play = (&'static [u8], &'static [u8], &'static [u8], u8);
-
-/// Plays over which nothing fails. Of the faults of an input the first in this order decides: a bad
-/// log, a bad line of the script, a line that is not built.
-const PLAYS: [Play; 11] = [
-    (
-        b"",
-        b"assign 0\ncommit 1\n",
-        b"assign 0 epoch 1 at 0 map =\nline 2: unknown-part\n",
-        0,
-    ),
-    (
-        b"",
-        b"assign 0\nassign 0\ncommit 0\n",
-        b"assign 0 epoch 1 at 0 map =\ncommit 0 at 0 map = size 0\nline 2: already-held\n",
-        0,
-    ),
-    (b"", b"commit 0\n", b"line 1: not-held\n", 0),
-    (b"", b"", b"", 0),
-    (
-        b"",
-        b"# one part\n\nassign 0",
-        b"assign 0 epoch 1 at 0 map =\n",
-        0,
-    ),
-    (b"", b"assign 0\ntick 1\n", b"fault not-built 2\n", 99),
-    (b"", b"tick 1\nassign\n", b"fault script 2 word-count\n", 5),
-    (b"", b"assign 1024\n", b"fault script 1 out-of-range\n", 5),
-    (b"x", b"assign\n", b"fault log =a.log at 0 short 0 61\n", 4),
-    (
-        &THREE_RECORDS,
-        b"drain\nassign\n",
-        b"fault script 2 word-count\n",
-        5,
-    ),
-    (&THREE_RECORDS, b"close\n", b"fault not-built 1\n", 99),
-];
 
 /// One batch with the records (0, "a", "x"), (1, "b", "yy") and (2, "a", "zzz").
 pub(crate) const THREE_RECORDS: [u8; 91] = [
@@ -69,395 +31,232 @@ pub(crate) const THREE_RECORDS: [u8; 91] = [
     0x14, 0x00, 0x00, 0x04, 0x02, 0x61, 0x06, 0x7A, 0x7A, 0x7A, 0x00,
 ];
 
-/// The place of a byte of that log that is another, that byte, the checksum, and the fault line.
-type Damaged = (usize, u8, [u8; 4], &'static [u8]);
-
-const CRC: [u8; 4] = [0xD6, 0xFC, 0x11, 0xEE];
-
-/// Each kind of fault that a batch has.
-const DAMAGED: [Damaged; 10] = [
-    (11, 0x50, CRC, b"fault log =a.log at 0 short 0 92\n"),
-    (16, 0x01, CRC, b"fault log =a.log at 0 magic 1\n"),
-    (16, 0xFF, CRC, b"fault log =a.log at 0 magic -1\n"),
-    (11, 0x30, CRC, b"fault log =a.log at 0 length 48\n"),
-    (
-        68,
-        0x77,
-        CRC,
-        b"fault log =a.log at 0 crc 3606843886 981511524\n",
-    ),
-    (
-        22,
-        0x04,
-        [0x78, 0xFF, 0x12, 0xB4],
-        b"fault log =a.log at 0 compressed 4\n",
-    ),
-    (
-        0,
-        0xFF,
-        CRC,
-        b"fault log =a.log at 0 offset-range -72057594037927936 2\n",
-    ),
-    (
-        61,
-        0x12,
-        [0xFD, 0x8A, 0x93, 0xFC],
-        b"fault log =a.log at 0 record 61 leftover\n",
-    ),
-    (
-        73,
-        0x00,
-        [0xC8, 0x2E, 0x15, 0xB8],
-        b"fault log =a.log at 0 record 70 delta\n",
-    ),
-    (
-        60,
-        0x04,
-        [0xB8, 0x64, 0x44, 0xBC],
-        b"fault log =a.log at 0 count 4 3\n",
-    ),
-];
-
-/// The numbers of the reads, of the link's calls and of the writes that fail, those of the link's
-/// calls that fail after they were handed on, and the room of the sink.
-#[derive(Clone, Copy, Debug)]
-pub(crate) struct Faults {
-    pub(crate) reads: &'static [u64],
-    pub(crate) calls: &'static [u64],
-    pub(crate) late: &'static [u64],
-    pub(crate) writes: &'static [u64],
-    pub(crate) room: u64,
+/// Plays `a.log`, which has three records, and `a.script` over a link. The read and the write of
+/// these numbers fail; 0 is none.
+fn play<L: Link + Drop>(
+    alloc: Global,
+    script: &[u8],
+    read: u64,
+    link: L,
+    out: &mut MemorySink,
+) -> Result<Ended<L>, AllocError> {
+    let mut files = MemoryFiles::new(alloc, &[read])?;
+    files.add("a.log", &THREE_RECORDS)?;
+    files.add("a.script", script)?;
+    let mut words = Vec::new(alloc);
+    for word in ["play", "a.log", "a.script"] {
+        words.push(String::from_str(alloc, word)?)?;
+    }
+    Ok(offline(alloc, &words, &mut files, link, out))
 }
 
-pub(crate) const NONE: Faults = Faults {
-    reads: &[],
-    calls: &[],
-    late: &[],
-    writes: &[],
-    room: ROOM,
-};
-
-/// A script of which each line is played.
-const SCRIPT: &[u8] = b"assign 0\ncommit 0\n";
-
-/// What fails while that script is played, what is printed, the number of the status, and how many
-/// events there are.
-const FAULTS: [(Faults, &[u8], u8, u64); 9] = [
-    // The link fails at the commit, before the broker has it and after.
-    (
-        Faults {
-            reads: &[],
-            calls: &[2],
-            late: &[],
-            writes: &[],
-            room: ROOM,
-        },
-        b"assign 0 epoch 1 at 0 map =\ncommit-failed 0 at 0 map = size 0\nline 2: link-failed\n",
-        0,
-        2,
-    ),
-    (
-        Faults {
-            reads: &[],
-            calls: &[],
-            late: &[2],
-            writes: &[],
-            room: ROOM,
-        },
-        b"assign 0 epoch 1 at 0 map =\ncommit-failed 0 at 0 map = size 0\nline 2: link-failed\n",
-        0,
-        2,
-    ),
-    // It fails at the assignment.
-    (
-        Faults {
-            reads: &[],
-            calls: &[1],
-            late: &[],
-            writes: &[],
-            room: ROOM,
-        },
-        b"line 1: link-failed\nline 2: not-held\n",
-        0,
-        0,
-    ),
-    // Each read fails in turn.
-    (
-        Faults {
-            reads: &[1],
-            calls: &[],
-            late: &[],
-            writes: &[],
-            room: ROOM,
-        },
-        b"fault read =a.log\n",
-        2,
-        0,
-    ),
-    (
-        Faults {
-            reads: &[2],
-            calls: &[],
-            late: &[],
-            writes: &[],
-            room: ROOM,
-        },
-        b"fault read =a.script\n",
-        2,
-        0,
-    ),
-    // The writes fail: that of a play, that of a fault line, and the second of each.
-    (
-        Faults {
-            reads: &[],
-            calls: &[],
-            late: &[],
-            writes: &[1],
-            room: ROOM,
-        },
-        b"",
-        7,
-        2,
-    ),
-    (
-        Faults {
-            reads: &[1],
-            calls: &[],
-            late: &[],
-            writes: &[1],
-            room: ROOM,
-        },
-        b"",
-        7,
-        0,
-    ),
-    (
-        Faults {
-            reads: &[],
-            calls: &[],
-            late: &[],
-            writes: &[2],
-            room: 8,
-        },
-        b"assign 0",
-        7,
-        2,
-    ),
-    (
-        Faults {
-            reads: &[1],
-            calls: &[],
-            late: &[],
-            writes: &[],
-            room: 8,
-        },
-        b"fault re",
-        7,
-        0,
-    ),
-];
-
-/// The broker of a topic with two parts. For part 0 it has a commit where a position is given.
-fn broker(alloc: Global, topic: &str, position: Option<u32>) -> Result<OffsetBroker, Fail> {
+/// The broker of a topic with two parts, of whose calls one fails early and one late; 0 is none.
+/// For part 0 it has a commit where a position is given.
+fn link(
+    alloc: Global,
+    topic: &str,
+    position: Option<u32>,
+    call: u64,
+    late: u64,
+) -> Result<FailingLink<OffsetBroker>, Fail> {
     let mut broker = OffsetBroker::new(alloc, topic, 2)?;
     if let Some(position) = position {
         let map = MapText::from_str(alloc, "bAACAg==")?;
         let position = u64::from(position);
         broker.with(GROUP, 0, Commit { position, map })?;
     }
-    Ok(broker)
-}
-
-/// Plays `a.log` and `a.script` with these bytes over a link.
-fn play_over<L: Link + Drop>(
-    alloc: Global,
-    words: &[&str],
-    log: &[u8],
-    script: &[u8],
-    reads: &[u64],
-    link: L,
-    out: &mut MemorySink,
-) -> Result<Ended<L>, AllocError> {
-    let mut files = MemoryFiles::new(alloc, reads)?;
-    files.add("a.log", log)?;
-    files.add("a.script", script)?;
-    let mut owned = Vec::new(alloc);
-    for word in words {
-        owned.push(String::from_str(alloc, word)?)?;
-    }
-    Ok(offline(alloc, &owned, &mut files, link, out))
-}
-
-/// Plays them over the broker of the topic.
-pub(crate) fn play(
-    alloc: Global,
-    words: &[&str],
-    log: &[u8],
-    script: &[u8],
-    faults: &Faults,
-    out: &mut MemorySink,
-) -> Result<Ended<FailingLink<OffsetBroker>>, Fail> {
-    let broker = broker(alloc, TOPIC, None)?;
-    let Ok(link) = FailingLink::new(alloc, broker, faults.calls, faults.late) else {
+    let Ok(link) = FailingLink::new(alloc, broker, &[call], &[late]) else {
         return Err(AllocError.into());
     };
-    Ok(play_over(alloc, words, log, script, faults.reads, link, out)?)
+    Ok(link)
 }
 
-pub(crate) const WORDS: [&str; 3] = ["play", "a.log", "a.script"];
-
-#[test]
-fn plays(rt: HostRuntime) -> Result<(), Fail> {
-    for (log, script, output, status) in PLAYS {
-        let mut out = MemorySink::new(rt.alloc(), ROOM, &[])?;
-        let ended = play(rt.alloc(), &WORDS, log, script, &NONE, &mut out)?;
-        assert_eq!(rt; out.bytes(), output);
-        assert_eq!(rt; ended.status.number(), status, "at {script:?}");
-    }
-    Ok(())
-}
-
-/// The log with another byte and another checksum.
-fn damaged(place: usize, byte: u8, crc: [u8; 4]) -> [u8; 91] {
-    let mut log = THREE_RECORDS;
-    if place < 91 {
-        log[place] = byte;
-    }
-    log[17..21].copy_from_slice(&crc);
-    log
-}
-
-#[test]
-fn damaged_logs(rt: HostRuntime) -> Result<(), Fail> {
-    for (place, byte, crc, output) in DAMAGED {
-        let mut out = MemorySink::new(rt.alloc(), ROOM, &[])?;
-        let log = damaged(place, byte, crc);
-        let ended = play(rt.alloc(), &WORDS, &log, SCRIPT, &NONE, &mut out)?;
-        assert_eq!(rt; out.bytes(), output, "at {place}");
-        assert_eq!(rt; ended.status.number(), 4, "at {place}");
-    }
-    Ok(())
-}
-
-/// The second batch begins again at offset 0.
-#[test]
-fn two_logs_in_one_file(rt: HostRuntime) -> Result<(), Fail> {
-    let mut log = [0; 182];
-    log[..91].copy_from_slice(&THREE_RECORDS);
-    log[91..].copy_from_slice(&THREE_RECORDS);
-    let mut out = MemorySink::new(rt.alloc(), ROOM, &[])?;
-    let ended = play(rt.alloc(), &WORDS, &log, SCRIPT, &NONE, &mut out)?;
-    assert_eq!(rt;
-        out.bytes(),
-        b"fault log =a.log at 91 offsets-fall 2 0\n".as_slice()
-    );
-    assert_eq!(rt; ended.status.number(), 4);
-    Ok(())
-}
-
-#[test]
-fn each_fault_of_the_outside(rt: HostRuntime) -> Result<(), Fail> {
-    for (faults, output, status, events) in FAULTS {
-        let mut out = MemorySink::new(rt.alloc(), faults.room, faults.writes)?;
-        let ended = play(rt.alloc(), &WORDS, b"", SCRIPT, &faults, &mut out)?;
-        assert_eq!(rt; out.bytes(), output);
-        assert_eq!(rt; ended.status.number(), status, "at {faults:?}");
-        assert_eq!(rt; ended.journal.len(), events, "at {faults:?}");
-    }
-    Ok(())
-}
-
-/// The script, the topic of the broker, what it stores for part 0 at first, the numbers of the
-/// calls that fail early and late, the output, and the position that is stored at the end.
-type Stored = (
+/// The numbers of the read, of the link's call, of its call that fails after it was handed on, and
+/// of the write that fail, 0 for none; the room of the sink; the script, the output, the number of
+/// the status, and how many events there are.
+type Row = (
+    u64,
+    u64,
+    u64,
+    u64,
+    u64,
     &'static [u8],
-    &'static str,
-    Option<u32>,
-    &'static [u64],
-    &'static [u64],
     &'static [u8],
+    u8,
     u64,
 );
 
-/// Plays over a broker that stores something. A late failure leaves the commit in the store, and an
-/// early one what stood there. The last two are over a log with records.
-const STORED: [Stored; 5] = [
+const TWO_LINES: &[u8] = b"assign 0\ncommit 0\n";
+
+const COMMIT: &[u8] = b"assign 0\npoll 0 3\ntake 1\nend 1\ncommit 0\ncrash\nassign 0\n";
+
+const REVOKE: &[u8] = b"assign 0\npoll 0 3\ntake 1\nend 1\nrevoke 0\nassign 0\n";
+
+const FAULTS: [Row; 13] = [
+    // The link fails at the commit, before the broker has it and after.
     (
-        b"assign 0\ncommit 0\n",
+        0,
+        2,
+        0,
+        0,
+        ROOM,
+        TWO_LINES,
+        b"assign 0 epoch 1 at 0 map =\ncommit-failed 0 at 0 map = size 0\nline 2: link-failed\n",
+        0,
+        2,
+    ),
+    (
+        0,
+        0,
+        2,
+        0,
+        ROOM,
+        TWO_LINES,
+        b"assign 0 epoch 1 at 0 map =\ncommit-failed 0 at 0 map = size 0\nline 2: link-failed\n",
+        0,
+        2,
+    ),
+    (
+        0,
+        2,
+        0,
+        0,
+        ROOM,
+        COMMIT,
+        b"assign 0 epoch 1 at 0 map =\npoll 0 count 3 last 2\n\
+dispatch 1 worker 1 part 0 offset 0 epoch 1 attempt 1\nsuccess 1 =1\n\
+commit-failed 0 at 1 map = size 0\ncrash\nassign 0 epoch 3 at 0 map =\nline 5: link-failed\n",
+        0,
+        7,
+    ),
+    (
+        0,
+        0,
+        2,
+        0,
+        ROOM,
+        COMMIT,
+        b"assign 0 epoch 1 at 0 map =\npoll 0 count 3 last 2\n\
+dispatch 1 worker 1 part 0 offset 0 epoch 1 attempt 1\nsuccess 1 =1\n\
+commit-failed 0 at 1 map = size 0\ncrash\nassign 0 epoch 3 at 1 map =\nline 5: link-failed\n",
+        0,
+        7,
+    ),
+    // The same of the commit of a revocation, which is not refused and has no remark.
+    (
+        0,
+        2,
+        0,
+        0,
+        ROOM,
+        REVOKE,
+        b"assign 0 epoch 1 at 0 map =\npoll 0 count 3 last 2\n\
+dispatch 1 worker 1 part 0 offset 0 epoch 1 attempt 1\nsuccess 1 =1\n\
+commit-failed 0 at 1 map = size 0\nrevoke 0 epoch 1\nassign 0 epoch 3 at 0 map =\n",
+        0,
+        7,
+    ),
+    (
+        0,
+        0,
+        2,
+        0,
+        ROOM,
+        REVOKE,
+        b"assign 0 epoch 1 at 0 map =\npoll 0 count 3 last 2\n\
+dispatch 1 worker 1 part 0 offset 0 epoch 1 attempt 1\nsuccess 1 =1\n\
+commit-failed 0 at 1 map = size 0\nrevoke 0 epoch 1\nassign 0 epoch 3 at 1 map =\n",
+        0,
+        7,
+    ),
+    // It fails at the assignment.
+    (
+        0,
+        1,
+        0,
+        0,
+        ROOM,
+        TWO_LINES,
+        b"line 1: link-failed\nline 2: not-held\n",
+        0,
+        0,
+    ),
+    // Each read fails in turn.
+    (1, 0, 0, 0, ROOM, TWO_LINES, b"fault read =a.log\n", 2, 0),
+    (2, 0, 0, 0, ROOM, TWO_LINES, b"fault read =a.script\n", 2, 0),
+    // The writes fail: that of a play, that of a fault line, and the second of each.
+    (0, 0, 0, 1, ROOM, TWO_LINES, b"", 7, 2),
+    (1, 0, 0, 1, ROOM, TWO_LINES, b"", 7, 0),
+    (0, 0, 0, 2, 8, TWO_LINES, b"assign 0", 7, 2),
+    (1, 0, 0, 0, 8, TWO_LINES, b"fault re", 7, 0),
+];
+
+#[test]
+fn each_fault_of_the_outside(rt: HostRuntime) -> Result<(), Fail> {
+    for (read, call, late, write, room, script, output, status, events) in FAULTS {
+        let mut out = MemorySink::new(rt.alloc(), room, &[write])?;
+        let link = link(rt.alloc(), TOPIC, None, call, late)?;
+        let ended = play(rt.alloc(), script, read, link, &mut out)?;
+        assert_eq!(rt; out.bytes(), output, "at {script:?}");
+        assert_eq!(rt; ended.status.number(), status, "at {output:?}");
+        assert_eq!(rt; ended.journal.len(), events, "at {output:?}");
+    }
+    Ok(())
+}
+
+/// The topic of the broker, what it stores for part 0 at first, the numbers of the calls that fail
+/// early and late, and the output.
+type Stored = (&'static str, Option<u32>, u64, u64, &'static [u8]);
+
+/// Plays over a broker that stores something, and over one of another topic.
+const STORED: [Stored; 4] = [
+    (
         "log",
         Some(7),
-        &[],
-        &[],
+        0,
+        0,
         b"assign 0 epoch 1 at 7 map =bAACAg==\ncommit 0 at 7 map = size 0\n",
-        7,
     ),
     (
-        b"assign 0\ncommit 0\n",
         "log",
         Some(7),
-        &[2],
-        &[],
-        b"assign 0 epoch 1 at 7 map =bAACAg==\ncommit-failed 0 at 7 map = size 0\nline 2: link-failed\n",
-        7,
-    ),
-    (
-        b"assign 0\ncommit 0\n",
-        "log",
-        Some(7),
-        &[],
-        &[2],
-        b"assign 0 epoch 1 at 7 map =bAACAg==\ncommit-failed 0 at 7 map = size 0\nline 2: link-failed\n",
-        7,
-    ),
-    (
-        b"assign 0\n",
-        "other",
-        None,
-        &[],
-        &[],
-        b"line 1: refused 3\n",
+        2,
         0,
+        b"assign 0 epoch 1 at 7 map =bAACAg==\ncommit-failed 0 at 7 map = size 0\nline 2: link-failed\n",
     ),
     (
-        b"assign 0\ncommit 0\n",
+        "log",
+        Some(7),
+        0,
+        2,
+        b"assign 0 epoch 1 at 7 map =bAACAg==\ncommit-failed 0 at 7 map = size 0\nline 2: link-failed\n",
+    ),
+    (
         "other",
         None,
-        &[],
-        &[],
+        0,
+        0,
         b"line 1: refused 3\nline 2: not-held\n",
-        0,
     ),
 ];
 
-/// The maps that are stored at the end of those plays, as far as the broker has the topic: a commit
-/// that was stored has none.
-const MAPS: [&str; 3] = ["", "bAACAg==", ""];
+/// What those brokers store for part 0 at the end. A commit that was stored has no map; a late
+/// failure leaves it in the store, and an early one what stood there.
+const KEPT: [Option<(u64, &str)>; 4] = [Some((7, "")), Some((7, "bAACAg==")), Some((7, "")), None];
 
 #[test]
 fn the_store_has_what_may_be_stored(rt: HostRuntime) -> Result<(), Fail> {
-    for i in 0..5 {
-        let (script, topic, position, fails, late, output, stored) = STORED[i];
-        let Ok(link) = FailingLink::new(
-            rt.alloc(),
-            broker(rt.alloc(), topic, position)?,
-            fails,
-            late,
-        ) else {
-            return Err(AllocError.into());
-        };
+    for i in 0..4 {
+        let (topic, position, call, late, output) = STORED[i];
+        let link = link(rt.alloc(), topic, position, call, late)?;
         let mut out = MemorySink::new(rt.alloc(), ROOM, &[])?;
-        let log: &[u8] = if i < 3 { b"" } else { &THREE_RECORDS };
-        let ended = play_over(rt.alloc(), &WORDS, log, script, &[], link, &mut out)?;
+        let ended = play(rt.alloc(), TWO_LINES, 0, link, &mut out)?;
         assert_eq!(rt; out.bytes(), output, "at {i}");
         assert_eq!(rt; ended.status.number(), 0, "at {i}");
         let mut client = Client::new(rt.alloc(), ended.link.into_link());
-        if i < 3 {
+        if let Some(kept) = KEPT[i] {
             let commit = client.fetch(0)?;
-            assert_eq!(rt;
-                (commit.position, commit.map.as_str()),
-                (stored, MAPS[i]),
-                "at {i}"
-            );
+            assert_eq!(rt; (commit.position, commit.map.as_str()), kept, "at {i}");
         } else {
             assert_eq!(rt; ended.journal.len(), 0, "at {i}");
         }
@@ -506,66 +305,11 @@ const ANSWERS: [(&[u8], &[u8]); 4] = [
 #[test]
 fn a_link_that_tells_nothing(rt: HostRuntime) -> Result<(), Fail> {
     for (reply, output) in ANSWERS {
-        let link = OneReply {
-            alloc: rt.alloc(),
-            reply,
-        };
-        let mut out = MemorySink::new(rt.alloc(), ROOM, &[])?;
-        let ended = play_over(rt.alloc(), &WORDS, b"", b"assign 0\n", &[], link, &mut out)?;
+        let alloc = rt.alloc();
+        let mut out = MemorySink::new(alloc, ROOM, &[])?;
+        let ended = play(alloc, b"assign 0\n", 0, OneReply { alloc, reply }, &mut out)?;
         assert_eq!(rt; out.bytes(), output, "by {reply:?}");
         assert_eq!(rt; ended.status.number(), 0);
     }
-    Ok(())
-}
-
-/// Words that are no command.
-const NO_COMMANDS: [&[&str]; 9] = [
-    &[],
-    &["play"],
-    &["play", "a.log"],
-    &["play", "a.log", "", "a.script"],
-    &["play", "a.log", "-a.log", "a.script"],
-    &["run", "a.log", "a.script"],
-    &["play", "", "a.script"],
-    &["play", "a.log", "-"],
-    &["play", "--config=c.toml", "a.script"],
-];
-
-#[test]
-fn other_words_are_no_command(rt: HostRuntime) -> Result<(), Fail> {
-    for words in NO_COMMANDS {
-        let mut out = MemorySink::new(rt.alloc(), ROOM, &[])?;
-        let ended = play(rt.alloc(), words, b"", SCRIPT, &NONE, &mut out)?;
-        assert_eq!(rt; out.bytes(), b"fault usage\n".as_slice());
-        assert_eq!(rt; ended.status.number(), 1, "at {words:?}");
-    }
-    Ok(())
-}
-
-/// One line more than a script may have.
-#[test]
-fn a_script_of_too_many_lines(rt: HostRuntime) -> Result<(), Fail> {
-    let script = vec![in rt.alloc(); b'\n'; 1_000_001]?;
-    let mut out = MemorySink::new(rt.alloc(), ROOM, &[])?;
-    let ended = play(rt.alloc(), &WORDS, b"", script.as_slice(), &NONE, &mut out)?;
-    assert_eq!(rt;
-        out.bytes(),
-        b"fault limit script-lines 1000000\n".as_slice()
-    );
-    assert_eq!(rt; ended.status.number(), 9);
-    Ok(())
-}
-
-/// One byte more than a file may have.
-#[test]
-fn a_log_of_too_many_bytes(rt: HostRuntime) -> Result<(), Fail> {
-    let log = vec![in rt.alloc(); 0; 268_435_457]?;
-    let mut out = MemorySink::new(rt.alloc(), ROOM, &[])?;
-    let ended = play(rt.alloc(), &WORDS, log.as_slice(), b"", &NONE, &mut out)?;
-    assert_eq!(rt;
-        out.bytes(),
-        b"fault limit file-bytes 268435456\n".as_slice()
-    );
-    assert_eq!(rt; ended.status.number(), 9);
     Ok(())
 }
