@@ -1,0 +1,6 @@
+use Rattle.std.proofs.Common.{rules, refl, sym, ap, ◌∙◌, ◌≡◌, ℕ, ◌+◌, ◌<◌, ◌^◌, arith, subst, ◌∷◌, [], Some, None}
+use Rattle.pc_state_lock.proofs.Steps.{splits}
+use Rattle.pc_state_lock.proofs.lock.StateLock.split.Goals as goal
+
+pub split_seat-requires : goal.split_seat-requires
+split_seat-requires g c = (search rules, search rules, splits _ _ _ _ _)
