@@ -1,8 +1,8 @@
 -- Lists that grow, and spans of places.
-use Rattle.std.proofs.Common.{◌≡◌, ℕ, ◌+◌, ◌<◌, ◌≤◌, ◌⊎◌, Bool, true, false, ◌&&◌, if◌then◌else◌, List, [], ◌∷◌, ◌++◌, length, refl, sym, ap, ◌∙◌, subst, inl, inr, ⊎_elim, arith, append_assoc, append-nil, length-append}
+use Rattle.std.proofs.Common.{◌≡◌, ℕ, ◌+◌, ◌<◌, ◌≤◌, ◌⊎◌, Bool, true, false, if◌then◌else◌, List, [], ◌∷◌, ◌++◌, length, refl, sym, ap, ◌∙◌, subst, inl, inr, ⊎_elim, arith, append_assoc, append-nil, length-append}
 use Rattle.std.proofs.lemmas.Bool.{ltb-true, ltb-false}
 use Rattle.std.proofs.lemmas.Bool.Decides.{nat_tests}
-use Rattle.std.specs.Prelude.{nat_le, nat_lt}
+use Rattle.std.specs.Prelude.{nat_lt}
 use Rattle.pc_state_lock.specs.History.{Continues, longer, covers, times_covered}
 
 -- a test holds or does not
@@ -13,6 +13,10 @@ true_or_false false = inr refl
 module _ {A : Type 0} where
   pub Continues-same : (xs : List A) → Continues xs xs
   Continues-same xs = record { added = []; is = refl }
+
+  -- one more entry, added to a list that is the earlier one
+  pub Continues-one : (zs ys xs : List A) (x : A) → zs ≡ x ∷ ys → ys ≡ xs → Continues zs xs
+  Continues-one zs ys xs x e f = record { added = x ∷ []; is = e ∙ ap (λ l. x ∷ l) f }
 
   pub Continues-none : (xs : List A) → Continues xs []
   Continues-none xs = record { added = xs; is = sym (append-nil xs) }

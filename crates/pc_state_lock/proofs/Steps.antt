@@ -1,5 +1,5 @@
 -- Each step on the lock's table keeps the rule.
-use Rattle.std.proofs.Common.{◌≡◌, ◌≢◌, ℕ, ◌+◌, ◌-◌, ◌%◌, ◌^◌, ◌<◌, ◌≤◌, ◌⊎◌, eqb, eq-eqb, ne_eqb, Bool, true, false, if◌then◌else◌, List, [], ◌∷◌, ◌++◌, map, length, set, get_or, refl, sym, ap, ◌∙◌, subst, ⊎_elim, arith, Option, Some, None}
+use Rattle.std.proofs.Common.{◌≡◌, ◌≢◌, ℕ, ◌+◌, ◌%◌, ◌^◌, ◌<◌, ◌≤◌, eqb, eq-eqb, ne_eqb, Bool, true, false, if◌then◌else◌, List, [], ◌∷◌, ◌++◌, length, set, get_or, refl, sym, ap, ◌∙◌, subst, ⊎_elim, arith, Option, Some, None}
 use Rattle.std.proofs.Math.Nat.{mod-eq_of_lt}
 use Rattle.std.proofs.lemmas.Bool.{cases_lt}
 use mathlib.Core.Logic.{dite}
@@ -7,12 +7,12 @@ use mathlib.Core.Option.{none, some, some-injective, some-ne-none}
 use native.Mathlib.Decide.{ℕ_discrete}
 use lib.ListN.{get_elem?}
 use prog.Atomic.{either}
-use Rattle.atomic_table.specs.Table.{State, Act, keeps, takes, gives, step, stepped, Valid, homes_after, carried_after, opening, Allows, Splits, Joins}
+use Rattle.atomic_table.specs.Table.{State, Act, keeps, takes, gives, step, Valid, homes_after, carried_after, opening, Allows, Splits, Joins}
 use Rattle.atomic_table.proofs.Lists.{set_again, set_else, set_here, exchanged}
 use Rattle.pc_model.specs.declared.event.Event.{Event}
 use Rattle.pc_state_lock.specs.Heading.{Heading}
-use Rattle.pc_state_lock.specs.History.{Continues, longer, covers, times_covered, AreApart, AreBelow}
-use Rattle.pc_state_lock.specs.Views.{Standing, first_view, newcomer, joined, spent, with_ticket, with_turn, with_span, at_rest, with_longer, drawn, TakesSlot, looked, IsCounted, counted, passed, IsCompared, compared}
+use Rattle.pc_state_lock.specs.History.{Continues, longer, times_covered}
+use Rattle.pc_state_lock.specs.Views.{Standing, first_view, newcomer, joined, spent, with_ticket, with_turn, with_span, at_rest, with_longer, drawn, looked, IsCounted, counted, passed, compared}
 use Rattle.pc_state_lock.specs.Rule.{IsStaged, times_taken, Fits, IsAway, IsHome, IsPlaced, IsKeptAt, IsKept}
 use Rattle.pc_state_lock.specs.declared.view.Stage.{Stage}
 use Rattle.pc_state_lock.specs.declared.view.Stage.TheVariants.{Rests, Waits, Turns}

@@ -1,13 +1,12 @@
 -- The views of all passes, and what holds of them after one of them changes.
-use Rattle.std.proofs.Common.{◌≡◌, ◌≢◌, ℕ, ◌+◌, ◌<◌, ◌≤◌, ◌⊎◌, Bool, true, false, List, [], ◌∷◌, ◌++◌, length, set, zero, suc, refl, sym, ap, ◌∙◌, subst, ⊎_elim, arith, Option}
+use Rattle.std.proofs.Common.{◌≡◌, ◌≢◌, ℕ, ◌+◌, ◌<◌, ◌≤◌, List, [], ◌∷◌, ◌++◌, length, set, zero, suc, refl, sym, ap, ◌∙◌, subst, ⊎_elim, arith, Option}
 use mathlib.Core.Logic.{dite}
 use mathlib.Core.Option.{some, some-injective, some-ne-none}
 use native.Mathlib.Decide.{ℕ_discrete}
 use lib.ListN.{get_elem?}
 use Rattle.atomic_table.proofs.Lists.{at_set, at_snoc, at_longer, set_else, set_here}
-use Rattle.pc_model.specs.declared.event.Event.{Event}
 use Rattle.pc_state_lock.specs.History.{times_covered}
-use Rattle.pc_state_lock.specs.Rule.{IsAway, Fits, times_taken}
+use Rattle.pc_state_lock.specs.Rule.{IsAway, times_taken}
 use Rattle.pc_state_lock.specs.declared.view.Stage.TheVariants.{Turns}
 use Rattle.pc_state_lock.specs.declared.view.View.{View}
 

@@ -5,7 +5,7 @@ use Rattle.pc_state_lock.specs.Heading.{Heading}
 use Rattle.pc_state_lock.specs.Views.{with_ticket}
 use Rattle.pc_state_lock.specs.declared.lock.StateLock.{StateLock}
 use Rattle.pc_state_lock.specs.declared.pass.Pass.{Pass}
-use Rattle.pc_state_lock.specs.declared.view.Stage.TheVariants.{Rests, Waits, Turns}
+use Rattle.pc_state_lock.specs.declared.view.Stage.TheVariants.{Rests, Turns}
 
 module _ {V : Type 0} where
   -- the heading of the lock, which all of its values have

@@ -15,3 +15,6 @@ pub use held::Held;
 pub use lock::StateLock;
 pub use pass::Pass;
 pub use shown::Shown;
+
+#[cfg(test)]
+mod tests;

@@ -1,4 +1,4 @@
-use Rattle.std.proofs.Common.{rules, refl, sym, ap, ◌∙◌, ◌≡◌, ℕ, ◌+◌, ◌<◌, ◌^◌, arith, subst, ◌∷◌, [], Some, None}
+use Rattle.std.proofs.Common.{rules}
 use Rattle.pc_state_lock.proofs.Steps.{joins, compares}
 use Rattle.pc_state_lock.proofs.lock.StateLock.join.Goals as goal
 

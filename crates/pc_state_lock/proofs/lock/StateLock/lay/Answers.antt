@@ -1,6 +1,5 @@
 use Rattle.std.proofs.Common.{rules, ap, sym, subst, ◌∙◌, ◌∷◌, ℕ, List, Option, Some}
 use Rattle.atomic_table.specs.Table.{rest}
-use Rattle.pc_model.specs.declared.event.Event.{Event}
 use Rattle.pc_state_lock.specs.History.{Continues}
 use Rattle.pc_state_lock.specs.Views.{Standing}
 use Rattle.pc_state_lock.proofs.Steps.{counts, leaves}

@@ -1,5 +1,5 @@
-use Rattle.std.proofs.Common.{rules, ap, ◌∙◌, subst}
-use Rattle.pc_state_lock.specs.Views.{Standing, TakesSlot}
+use Rattle.std.proofs.Common.{rules, ap, ◌∙◌}
+use Rattle.pc_state_lock.specs.Views.{Standing}
 use Rattle.pc_state_lock.proofs.Steps.{looks}
 use Rattle.pc_state_lock.proofs.lock.StateLock.wait_for.Goals as goal
 
