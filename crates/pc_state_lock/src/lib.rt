@@ -4,6 +4,7 @@
 //! them its own turns added, so that what each thread did stands in one history.
 #![tactic(auto)]
 
+mod bells;
 mod held;
 mod lock;
 mod pass;

@@ -3,6 +3,7 @@
 ghost use Rattle.std.specs.Prelude.{◌≡◌, ◌+◌, ◌^◌, ◌<◌, ◌++◌, ◌∷◌, [], ◌⊎◌, length, IfOk, IfErr};
 ghost use Rattle.pc_state_lock.specs.History.{Continues, AreApart, AreBelow};
 
+use crate::bells::Bells;
 use crate::held::Held;
 use crate::pass::Pass;
 use crate::plays::{Both, Compare, Count, Cut, Draw, Law, Leave, Look};
@@ -30,6 +31,7 @@ const SLOT: usize = 0;
 #[derive(Drop)]
 pub struct StateLock<V: Shown> {
     table: Table<Option<V>, View<V>, Snapshot<V>, Law, Global>,
+    bells: Bells,
     ghost sized: { (table.shared.table_id.words ≡ 3) × (table.shared.table_id.slots ≡ 1) },
 }
 
@@ -49,12 +51,15 @@ impl<V: Shown> StateLock<V> {
     {
         let start = Snapshot::of(&value);
         let events = value.events();
+        let Ok(bells) = Bells::silent(alloc) else {
+            return Err(value);
+        };
         let Ok(mut slots) = Vec::with_capacity(alloc, 1) else {
             return Err(value);
         };
         slots.push_reserved(Some(value));
         match Table::new(alloc, &[0, 0, events], slots, &start) {
-            Ok((table, seat)) => Ok((StateLock { table }, Pass { seat })),
+            Ok((table, seat)) => Ok((StateLock { table, bells }, Pass { seat })),
             Err(Refused { slots }) => Err(only(slots)),
         }
     }
@@ -133,7 +138,8 @@ impl<V: Shown> StateLock<V> {
         let before = shared.exchange(&mut pass.seat, SLOT, Some(value));
         let None = before else { unreachable!() };
         shared.store::<Count>(&mut pass.seat, EVENTS, events);
-        shared.fetch_add::<Leave>(&mut pass.seat, SERVING, 1);
+        let served = shared.fetch_add::<Leave>(&mut pass.seat, SERVING, 1);
+        self.bells.ring(served);
     }
 
     /// Takes a last turn, ends the lock and hands out the value.
@@ -177,13 +183,12 @@ impl<V: Shown> StateLock<V> {
         ensures turn { TakesSlot V.heading V.history ticket pass.old.seat.me pass.new.seat.me }
     {
         for _ in rt.forever() {
+            let rings = self.bells.rings(ticket);
             let served = self.table.shared.load::<Look>(&mut pass.seat, SERVING);
             if served == ticket {
                 return;
             }
-            for _ in served..ticket {
-                yield_now();
-            }
+            self.bells.wait(rt, ticket, served, rings);
         }
         unreachable!()
     }

@@ -15,8 +15,8 @@ store-requires g c =
     let more = subst (λ (m : Standing g.row.V.Denot). Continues (g.V.Shown.history c.args.held.value) m.0.seen) (sym is) c.requires.later in
     (search rules, search rules, counts _ _ _ _ _ _ c.requires.turn.ticket _ c.args.held.value turns carried told more c.events-events.ensures)
 
-pub fetch_add-requires : goal.fetch_add-requires
-fetch_add-requires g c =
+pub fetch_add-served-requires : goal.fetch_add-served-requires
+fetch_add-served-requires g c =
     let was = c.exchange-before.ensures.3 in
     let carried = ap (λ (m : Standing g.row.V.Denot). m.1) was
     ∙ ap (λ (l : List (ℕ × Option g.row.V.Denot)). (0, Some c.args.held.value) ∷ rest l) c.requires.turn.slots in

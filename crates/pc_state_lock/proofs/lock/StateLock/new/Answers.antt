@@ -9,7 +9,7 @@ pub new-requires : goal.new-requires
 new-requires g c =
     let start = c.of-start.result.value in
     let items = c.push_reserved.ensures.items
-    ∙ (ap (λ (l : List (Option g.row.V.Denot)). l ++ Some c.args.value ∷ []) c.in-Ok.ensures.items
+    ∙ (ap (λ (l : List (Option g.row.V.Denot)). l ++ Some c.args.value ∷ []) c.in-Ok-with_capacity.ensures.items
     ∙ ap (λ (x : g.row.V.Denot). Some x ∷ []) (sym c.of-start.ensures)) in
     let count = c.events-events.ensures ∙ ap (λ (x : g.row.V.Denot). length (g.V.Shown.history x)) (sym c.of-start.ensures) in
     subst (λ (l : List (Option g.row.V.Denot)). IsKept g.V.Shown.heading g.V.Shown.history start

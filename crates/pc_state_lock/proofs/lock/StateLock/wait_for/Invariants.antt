@@ -3,6 +3,3 @@ use Rattle.pc_state_lock.proofs.lock.StateLock.wait_for.Given as goal
 
 abbrev pub invariant-loop : goal.invariant-loop
 invariant-loop g l = IsAsBefore l.initial.pass l.pass
-
-abbrev pub invariant-loop-2 : goal.invariant-loop-2
-invariant-loop-2 g l = IsAsBefore l.initial.pass l.pass
