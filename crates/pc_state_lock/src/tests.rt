@@ -12,18 +12,18 @@ use std::sync::Wait;
 use std::test::Fail;
 use std::thread::{Threads, join_mut};
 
-/// A journal of ticks, whose heading has a setup.
+/// A journal of ticks, whose heading has a setup that is lent.
 #[derive(Drop)]
-pub(crate) struct Ticks {
-    setup: Setup,
+pub(crate) struct Ticks<'a> {
+    setup: &'a Setup,
     journal: Journal,
 }
 
-impl Shown for Ticks {
+impl Shown for Ticks<'_> {
     ghost use Rattle.std.specs.Prelude.{[], false};
 
     ghost heading = { λ t. record {
-      given = record { setup = t.setup; logs = []; start = []; is_told = false };
+      given = record { setup = t.setup.now; logs = []; start = []; is_told = false };
       store = record { topic = []; parts = 0; commits = []; memberships = [] };
       steps = [];
       workers = 0;
@@ -37,11 +37,10 @@ impl Shown for Ticks {
     }
 }
 
-impl Ticks {
-    fn new(alloc: Global) -> Result<Ticks, AllocError> {
-        let setup = Setup::with_defaults(alloc)?;
+impl<'a> Ticks<'a> {
+    fn new(alloc: Global, setup: &'a Setup) -> Ticks<'a> {
         let journal = Journal::new(alloc);
-        Ok(Ticks { setup, journal })
+        Ticks { setup, journal }
     }
 
     /// Adds a tick, where there is memory for it.
@@ -66,18 +65,18 @@ impl Ticks {
 
 /// What a thread works with.
 #[derive(Drop)]
-struct Worker<'l> {
-    lock: &'l StateLock<Ticks>,
-    pass: Pass<Ticks>,
+struct Worker<'l, 'a> {
+    lock: &'l StateLock<Ticks<'a>>,
+    pass: Pass<Ticks<'a>>,
     number: u64,
     ghost ready: { IsPassOf lock.now pass × IsAtRest pass },
 }
 
 /// Takes this many turns, each of which adds one tick.
-fn take_turns<R: Wait>(
+fn take_turns<'a, R: Wait>(
     rt: &R,
-    lock: &StateLock<Ticks>,
-    pass: &mut Pass<Ticks>,
+    lock: &StateLock<Ticks<'a>>,
+    pass: &mut Pass<Ticks<'a>>,
     number: u64,
     turns: u64,
 )
@@ -93,18 +92,18 @@ fn take_turns<R: Wait>(
     }
 }
 
-impl Worker<'_> {
+impl Worker<'_, '_> {
     fn work(&mut self, rt: &impl Wait) {
         take_turns(rt, self.lock, &mut self.pass, self.number, 500);
     }
 }
 
 /// Makes sixteen workers, with passes that are split from this one.
-fn hire<'l>(
+fn hire<'l, 'a>(
     alloc: Global,
-    lock: &'l StateLock<Ticks>,
-    pass: &mut Pass<Ticks>,
-) -> Result<Vec<Worker<'l>>, AllocError>
+    lock: &'l StateLock<Ticks<'a>>,
+    pass: &mut Pass<Ticks<'a>>,
+) -> Result<Vec<Worker<'l, 'a>>, AllocError>
     requires pass { IsPassOf lock.now pass.old }
     requires rests { IsAtRest pass.old }
     ensures pass { IsPassOf lock.now pass.new }
@@ -119,7 +118,7 @@ fn hire<'l>(
 }
 
 /// Lets each worker take its turns, in a thread of its own.
-fn run<R: Threads + Wait + Sync>(rt: &R, workers: &mut [Worker<'_>]) {
+fn run<R: Threads + Wait + Sync>(rt: &R, workers: &mut [Worker<'_, '_>]) {
     if let [worker] = workers {
         return worker.work(rt);
     }
@@ -140,7 +139,8 @@ fn run<R: Threads + Wait + Sync>(rt: &R, workers: &mut [Worker<'_>]) {
 
 #[test]
 fn two_passes_take_turns(rt: HostRuntime) -> Result<(), Fail> {
-    let Ok((lock, mut pass)) = StateLock::new(rt.alloc(), Ticks::new(rt.alloc())?) else {
+    let setup = Setup::with_defaults(rt.alloc())?;
+    let Ok((lock, mut pass)) = StateLock::new(rt.alloc(), Ticks::new(rt.alloc(), &setup)) else {
         return Err(AllocError.into());
     };
     let mut other = lock.split(&mut pass);
@@ -159,7 +159,8 @@ fn two_passes_take_turns(rt: HostRuntime) -> Result<(), Fail> {
 
 #[test]
 fn sixteen_threads_take_turns(rt: HostRuntime) -> Result<(), Fail> {
-    let Ok((lock, mut pass)) = StateLock::new(rt.alloc(), Ticks::new(rt.alloc())?) else {
+    let setup = Setup::with_defaults(rt.alloc())?;
+    let Ok((lock, mut pass)) = StateLock::new(rt.alloc(), Ticks::new(rt.alloc(), &setup)) else {
         return Err(AllocError.into());
     };
     let mut workers = hire(rt.alloc(), &lock, &mut pass)?;
