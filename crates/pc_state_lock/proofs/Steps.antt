@@ -13,12 +13,12 @@ use Rattle.pc_model.specs.declared.event.Event.{Event}
 use Rattle.pc_state_lock.specs.Heading.{Heading}
 use Rattle.pc_state_lock.specs.History.{Continues, longer, times_covered}
 use Rattle.pc_state_lock.specs.Views.{Standing, first_view, newcomer, joined, spent, with_ticket, with_turn, with_span, at_rest, with_longer, drawn, looked, IsCounted, counted, passed, compared}
-use Rattle.pc_state_lock.specs.Rule.{IsStaged, times_taken, Fits, IsAway, IsHome, IsPlaced, IsKeptAt, IsKept}
+use Rattle.pc_state_lock.specs.Rule.{IsStaged, tickets, total, times_taken, tickets_out, Fits, IsAway, IsHome, IsPlaced, IsKeptAt, IsKept}
 use Rattle.pc_state_lock.specs.declared.view.Stage.{Stage}
 use Rattle.pc_state_lock.specs.declared.view.Stage.TheVariants.{Rests, Waits, Turns}
 use Rattle.pc_state_lock.specs.declared.view.View.{View}
 use Rattle.pc_state_lock.proofs.HistoryLemmas.{Continues-same, Continues-none, Continues-further, Continues-length, longer-own, longer-other, longer-within, longer-whole, times_covered-append, covers-most, covers-before, covers-behind}
-use Rattle.pc_state_lock.proofs.ViewLemmas.{times_taken-le, times_taken-set, times_taken-snoc, times_taken-none, each-set, each-snoc, at_within, IsAway-set, IsAway-snoc}
+use Rattle.pc_state_lock.proofs.ViewLemmas.{total-le, total-set, total-snoc, total-none, each-set, each-snoc, at_within, IsAway-set, IsAway-snoc}
 
 -- who has which ticket once this one is given to pass id
 abbrev given_to : ℕ → ℕ → (ℕ → ℕ) → ℕ → ℕ
@@ -57,6 +57,14 @@ staged_longer : (list : List Event) (serving next : ℕ) (away : Bool) (owner : 
 staged_longer list serving next away owner id seen told f Rests h = tt
 staged_longer list serving next away owner id seen told f (Waits t) h = h
 staged_longer list serving next away owner id seen told f (Turns t) h = (h.0, h.1, h.2, h.3, longer-whole list seen told h.4 f)
+
+-- how many of the pass's spans have the place
+abbrev spans_at : {V : Type 0} → ℕ → View V → ℕ
+spans_at place v = times_covered place v.mine
+
+-- how many tickets the pass has
+abbrev tickets_of : {V : Type 0} → View V → ℕ
+tickets_of v = tickets v.stage
 
 module _ {V : Type 0} (heading : V → Heading) (history : V → List Event) (start : V) where
   abbrev Homes : Type 0
@@ -100,20 +108,25 @@ module _ {V : Type 0} (heading : V → Heading) (history : V → List Event) (st
   -- a view with the same spans leaves them apart
   apart_set : (views : Views) (id : ℕ) (v w : View V) → get_elem? views id ≡ some v → w.mine ≡ v.mine → ((place : ℕ) → times_taken place views ≤ 1) → (place : ℕ) → times_taken place (set views id w) ≤ 1
   apart_set views id v w at same apart place =
-      let e = times_taken-set place views id v w at in
+      let e = total-set (spans_at place) views id v w at in
       let f : times_covered place w.mine ≡ times_covered place v.mine = ap (times_covered place) same in
       let a = apart place in omega arith
 
+  -- a view with as many tickets leaves all of them out
+  all_out_set : (next serving : ℕ) (views : Views) (id : ℕ) (v w : View V) → get_elem? views id ≡ some v → tickets w.stage ≡ tickets v.stage
+      → next ≡ serving + tickets_out views → next ≡ serving + tickets_out (set views id w)
+  all_out_set next serving views id v w at same all = let e = total-set tickets_of views id v w at in omega arith
+
   module _ (next serving : ℕ) (list : List Event) (homes : Homes) (views : Views) (r : Kept next serving list homes views) (id : ℕ) (v : View V) (at : get_elem? views id ≡ some v) where
     draws_at : v.stage ≡ Rests → next + 1 < 2 ^ 64 → Kept (next + 1) serving list homes (set views id (with_ticket next v))
-    draws_at rests fewer = let order = r.order in let f = r.fits id v at in record {
+    draws_at rests fewer = let all = r.all_out in let f = r.fits id v at in record {
       away = r.away;
       owner = given_to next id r.owner;
-      order = omega arith;
+      all_out = let e = total-set tickets_of views id v (with_ticket next v) at in let none_out : tickets v.stage ≡ 0 = ap tickets rests in omega arith;
       small = fewer;
       placed = placed_set serving list homes views id v (with_ticket next v) at (λ e. absurd (cc)) r.away r.placed;
       fits = each-set (Fits list serving (next + 1) r.away (given_to next id r.owner)) views id (with_ticket next v)
-          record { seen = f.seen; told = f.told; within = f.within; staged = (order, omega arith, given_here next id r.owner) }
+          record { seen = f.seen; told = f.told; within = f.within; staged = (omega arith, omega arith, given_here next id r.owner) }
           (λ j u other there. let g = r.fits j u there in record { seen = g.seen; told = g.told; within = g.within; staged = staged_drawn list serving next r.away r.owner id j u.seen u.stage g.staged });
       apart = apart_set views id v (with_ticket next v) at refl r.apart;
     }
@@ -136,7 +149,7 @@ module _ {V : Type 0} (heading : V → Heading) (history : V → List Event) (st
     takes_at waits = let f = r.fits id v at in let mine = subst (IsStaged list serving next r.away r.owner id v.seen) waits f.staged in let w : View V = with_turn serving list v in record {
       away = true;
       owner = r.owner;
-      order = r.order;
+      all_out = all_out_set next serving views id v w at (sym (ap tickets waits)) r.all_out;
       small = r.small;
       placed = record { empty = refl; holder = id; view = w; there = set_here views id w (at_within views id v at); turns = refl };
       fits = each-set (Fits list serving next true r.owner) views id w
@@ -158,12 +171,12 @@ module _ {V : Type 0} (heading : V → Heading) (history : V → List Event) (st
       own_served = ap r.owner (sym own.0) ∙ own.2
 
       no_place : (place : ℕ) → length list ≤ place → times_taken place views ≡ 0
-      no_place place l = times_taken-none place views (λ j u there. let g = r.fits j u there in
+      no_place place l = total-none (spans_at place) views (λ j u there. let g = r.fits j u there in
           let a = Continues-length list u.seen g.seen in let b = Continues-length list u.told g.told in g.within place (omega arith) (omega arith))
 
       apart_counted : (list' : List Event) (place : ℕ) → times_taken place (set views id (with_span list' v)) ≤ 1
       apart_counted list' place =
-          let e = times_taken-set place views id v (with_span list' v) at in
+          let e = total-set (spans_at place) views id v (with_span list' v) at in
           let seen : length v.seen ≡ length list = ap length own.4 in
           let a = r.apart place in
           let most = covers-most place (length v.seen) (length list') in
@@ -179,7 +192,7 @@ module _ {V : Type 0} (heading : V → Heading) (history : V → List Event) (st
           record {
             away = r.away;
             owner = r.owner;
-            order = r.order;
+            all_out = all_out_set next serving views id v w at refl r.all_out;
             small = r.small;
             placed = placed_relist serving list list' homes views id v w at (λ e. e) r.away own.3 r.placed;
             fits = each-set (Fits list' serving next r.away r.owner) views id w
@@ -202,7 +215,7 @@ module _ {V : Type 0} (heading : V → Heading) (history : V → List Event) (st
       leaves_at value headed listed = let f = r.fits id v at in let served : ticket ≡ serving = own.0 in let drawn_before : ticket < next = own.1 in record {
         away = false;
         owner = r.owner;
-        order = omega arith;
+        all_out = let e = total-set tickets_of views id v (at_rest v) at in let one_out : tickets v.stage ≡ 1 = ap tickets turns in let all = r.all_out in omega arith;
         small = r.small;
         placed = record { value = value; there = refl; headed = headed; listed = sym listed ∙ own.4 };
         fits = each-set (Fits list (serving + 1) next false r.owner) views id (at_rest v)
@@ -220,7 +233,7 @@ module _ {V : Type 0} (heading : V → Heading) (history : V → List Event) (st
     compares_at = let f = r.fits id v at in let w : View V = with_longer v in record {
       away = r.away;
       owner = r.owner;
-      order = r.order;
+      all_out = all_out_set next serving views id v w at refl r.all_out;
       small = r.small;
       placed = placed_set serving list homes views id v w at (λ e. e) r.away r.placed;
       fits = each-set (Fits list serving next r.away r.owner) views id w
@@ -239,13 +252,13 @@ module _ {V : Type 0} (heading : V → Heading) (history : V → List Event) (st
     splits_at = let f = r.fits id v at in let P : Views → Type 0 = λ vs. Kept next serving list homes (vs ++ newcomer v ∷ []) in subst P (sym (set_again views id v at)) record {
       away = r.away;
       owner = r.owner;
-      order = r.order;
+      all_out = let e = total-snoc tickets_of views (newcomer v) in let all = r.all_out in omega arith;
       small = r.small;
       placed = placed_snoc serving list homes views (newcomer v) r.away r.placed;
       fits = each-snoc (Fits list serving next r.away r.owner) views (newcomer v)
           (λ j. record { seen = f.seen; told = Continues-none list; within = λ place l m. refl; staged = tt })
           r.fits;
-      apart = λ place. let e = times_taken-snoc place views (newcomer v) in let a = r.apart place in omega arith;
+      apart = λ place. let e = total-snoc (spans_at place) views (newcomer v) in let a = r.apart place in omega arith;
     }
 
     joins_at : (other : ℕ) (w : View V) → ¬ (other ≡ id) → get_elem? (set views id (joined v w)) other ≡ some w → v.told ≡ [] → w.told ≡ [] → w.stage ≡ Rests
@@ -254,11 +267,11 @@ module _ {V : Type 0} (heading : V → Heading) (history : V → List Event) (st
         let u : View V = joined v w in
         let there' : get_elem? views other ≡ some w = sym (set_else views id other u others) ∙ there in
         let f = r.fits id v at in let g = r.fits other w there' in
-        let one : (place : ℕ) → times_taken place (set views id u) + times_covered place v.mine ≡ times_taken place views + times_covered place u.mine = λ place. times_taken-set place views id v u at in
+        let one : (place : ℕ) → times_taken place (set views id u) + times_covered place v.mine ≡ times_taken place views + times_covered place u.mine = λ place. total-set (spans_at place) views id v u at in
         record {
           away = r.away;
           owner = r.owner;
-          order = r.order;
+          all_out = all_out_set next serving (set views id u) other w spent there (sym (ap tickets rests)) (all_out_set next serving views id v u at refl r.all_out);
           small = r.small;
           placed = placed_set serving list homes (set views id u) other w spent there (λ e. absurd (cc)) r.away (placed_set serving list homes views id v u at (λ e. e) r.away r.placed);
           fits = each-set (Fits list serving next r.away r.owner) (set views id u) other spent
@@ -272,7 +285,7 @@ module _ {V : Type 0} (heading : V → Heading) (history : V → List Event) (st
                 staged = f.staged;
               }
               (λ i y _ at_i. r.fits i y at_i) j x at_j);
-          apart = λ place. let e = times_covered-append place v.mine w.mine in let a = one place in let b = times_taken-set place (set views id u) other w spent there in let c = r.apart place in omega arith;
+          apart = λ place. let e = times_covered-append place v.mine w.mine in let a = one place in let b = total-set (spans_at place) (set views id u) other w spent there in let c = r.apart place in omega arith;
         }
 
   -- the table as it is made
@@ -285,7 +298,7 @@ module _ {V : Type 0} (heading : V → Heading) (history : V → List Event) (st
     kept = record {
       away = false;
       owner = λ _. 0;
-      order = omega arith;
+      all_out = refl;
       small = omega arith;
       placed = record { value = start; there = refl; headed = refl; listed = refl };
       fits = each-snoc (Fits (history start) 0 0 false (λ _. 0)) [] (first_view history start)
@@ -399,7 +412,7 @@ module _ {V : Type 0} (heading : V → Heading) (history : V → List Event) (st
           record { drawn = r.drawn; serving = r.serving; list = list'; words = ap (λ (k : ℕ). r.drawn ∷ r.serving ∷ k ∷ []) counted_is; kept = kept },
           λ other is _. let one : Some value ≡ Some other = ap (first_carried None) (sym carried ∙ is) in let same : value ≡ other = cc in subst (λ (x : V). IsCounted (history x) m (w, m.1)) same record {
             is = refl;
-            apart = λ place. let a = kept.apart place in let b = times_taken-le place (set s.views id w) id w there in omega arith;
+            apart = λ place. let a = kept.apart place in let b = total-le (spans_at place) (set s.views id w) id w there in omega arith;
             below = λ place l. (kept.fits id w there).within place l (omega arith);
           },
         )
@@ -451,7 +464,7 @@ module _ {V : Type 0} (heading : V → Heading) (history : V → List Event) (st
             is = refl;
             own = longer-own r.list m.0.seen m.0.told f.seen f.told;
             other = longer-other r.list m.0.seen m.0.told f.seen f.told;
-            apart = λ place. let a = kept.apart place in let b = times_taken-le place (set s.views id w) id w there in omega arith;
+            apart = λ place. let a = kept.apart place in let b = total-le (spans_at place) (set s.views id w) id w there in omega arith;
             below = λ place l. (kept.fits id w there).within place l (omega arith);
           },
         )

@@ -5,34 +5,32 @@ use mathlib.Core.Option.{some, some-injective, some-ne-none}
 use native.Mathlib.Decide.{ℕ_discrete}
 use lib.ListN.{get_elem?}
 use Rattle.atomic_table.proofs.Lists.{at_set, at_snoc, at_longer, set_else, set_here}
-use Rattle.pc_state_lock.specs.History.{times_covered}
-use Rattle.pc_state_lock.specs.Rule.{IsAway, times_taken}
+use Rattle.pc_state_lock.specs.Rule.{IsAway, total}
 use Rattle.pc_state_lock.specs.declared.view.Stage.TheVariants.{Turns}
 use Rattle.pc_state_lock.specs.declared.view.View.{View}
 
 module _ {V : Type 0} where
-  -- a pass's spans are among all
-  pub times_taken-le : (place : ℕ) (views : List (View V)) (id : ℕ) (v : View V) → get_elem? views id ≡ some v → times_covered place v.mine ≤ times_taken place views
-  times_taken-le place [] id v at = absurd (some-ne-none v (sym at))
-  times_taken-le place (x ∷ views) zero v at = let e : times_covered place x.mine ≡ times_covered place v.mine = ap (λ (u : View V). times_covered place u.mine) (some-injective x v at) in omega arith
-  times_taken-le place (x ∷ views) (suc id) v at = let l = times_taken-le place views id v at in omega arith
+  -- a view's number is part of the sum
+  pub total-le : (f : View V → ℕ) (views : List (View V)) (id : ℕ) (v : View V) → get_elem? views id ≡ some v → f v ≤ total f views
+  total-le f [] id v at = absurd (some-ne-none v (sym at))
+  total-le f (x ∷ views) zero v at = let e : f x ≡ f v = ap f (some-injective x v at) in omega arith
+  total-le f (x ∷ views) (suc id) v at = let l = total-le f views id v at in omega arith
 
-  -- one view changes
-  pub times_taken-set : (place : ℕ) (views : List (View V)) (id : ℕ) (v w : View V) → get_elem? views id ≡ some v
-      → times_taken place (set views id w) + times_covered place v.mine ≡ times_taken place views + times_covered place w.mine
-  times_taken-set place [] id v w at = absurd (some-ne-none v (sym at))
-  times_taken-set place (x ∷ views) zero v w at = let e : times_covered place x.mine ≡ times_covered place v.mine = ap (λ (u : View V). times_covered place u.mine) (some-injective x v at) in omega arith
-  times_taken-set place (x ∷ views) (suc id) v w at = let l = times_taken-set place views id v w at in omega arith
+  -- the sum where one view changes
+  pub total-set : (f : View V → ℕ) (views : List (View V)) (id : ℕ) (v w : View V) → get_elem? views id ≡ some v → total f (set views id w) + f v ≡ total f views + f w
+  total-set f [] id v w at = absurd (some-ne-none v (sym at))
+  total-set f (x ∷ views) zero v w at = let e : f x ≡ f v = ap f (some-injective x v at) in omega arith
+  total-set f (x ∷ views) (suc id) v w at = let l = total-set f views id v w at in omega arith
 
-  -- a view comes
-  pub times_taken-snoc : (place : ℕ) (views : List (View V)) (w : View V) → times_taken place (views ++ w ∷ []) ≡ times_taken place views + times_covered place w.mine
-  times_taken-snoc place [] w = omega arith
-  times_taken-snoc place (x ∷ views) w = let l = times_taken-snoc place views w in omega arith
+  -- the sum where a view comes
+  pub total-snoc : (f : View V → ℕ) (views : List (View V)) (w : View V) → total f (views ++ w ∷ []) ≡ total f views + f w
+  total-snoc f [] w = omega arith
+  total-snoc f (x ∷ views) w = let l = total-snoc f views w in omega arith
 
-  -- where no pass has the place, nobody has it
-  pub times_taken-none : (place : ℕ) (views : List (View V)) → ((id : ℕ) (v : View V) → get_elem? views id ≡ some v → times_covered place v.mine ≡ 0) → times_taken place views ≡ 0
-  times_taken-none place [] none_has = refl
-  times_taken-none place (x ∷ views) none_has = let a = none_has 0 x refl in let b = times_taken-none place views (λ id v at. none_has (suc id) v at) in omega arith
+  -- the sum of nothing but zeros
+  pub total-none : (f : View V → ℕ) (views : List (View V)) → ((id : ℕ) (v : View V) → get_elem? views id ≡ some v → f v ≡ 0) → total f views ≡ 0
+  total-none f [] none_has = refl
+  total-none f (x ∷ views) none_has = let a = none_has 0 x refl in let b = total-none f views (λ id v at. none_has (suc id) v at) in omega arith
 
   -- a fact of each view stays where one view changes
   pub each-set : (F : ℕ → View V → Type 0) (views : List (View V)) (id : ℕ) (w : View V) → F id w

@@ -18,11 +18,25 @@ IsStaged list serving drawn away owner id seen Rests = Unit {0}
 IsStaged list serving drawn away owner id seen (Waits ticket) = (serving ≤ ticket) × (ticket < drawn) × (owner ticket ≡ id)
 IsStaged list serving drawn away owner id seen (Turns ticket) = (ticket ≡ serving) × (ticket < drawn) × (owner ticket ≡ id) × (away ≡ true) × (seen ≡ list)
 
+-- how many tickets a pass has at this stage
+abbrev pub tickets : Stage → ℕ
+tickets Rests = 0
+tickets (Waits ticket) = 1
+tickets (Turns ticket) = 1
+
 module _ {V : Type 0} where
+  -- the sum of a number of each view
+  abbrev pub total : (View V → ℕ) → List (View V) → ℕ
+  total f [] = 0
+  total f (v ∷ views) = f v + total f views
+
   -- how many spans of all passes have the place
   abbrev pub times_taken : ℕ → List (View V) → ℕ
-  times_taken place [] = 0
-  times_taken place (v ∷ views) = times_covered place v.mine + times_taken place views
+  times_taken place views = total (λ v. times_covered place v.mine) views
+
+  -- how many passes have a ticket
+  abbrev pub tickets_out : List (View V) → ℕ
+  tickets_out views = total (λ v. tickets v.stage) views
 
   -- what holds of the view of pass id
   pub record Fits (list : List Event) (serving drawn : ℕ) (away : Bool) (owner : ℕ → ℕ) (id : ℕ) (v : View V) : Type 0 where
@@ -55,7 +69,7 @@ module _ {V : Type 0} where
       pub away : Bool
       -- which pass has a ticket
       pub owner : ℕ → ℕ
-      pub order : serving ≤ drawn
+      pub all_out : drawn ≡ serving + tickets_out views
       pub small : drawn < 2 ^ 64
       pub placed : IsPlaced serving list homes views away
       pub fits : (id : ℕ) (v : View V) → get_elem? views id ≡ some v → Fits list serving drawn away owner id v
