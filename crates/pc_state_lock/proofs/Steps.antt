@@ -13,7 +13,7 @@ use Rattle.pc_model.specs.declared.event.Event.{Event}
 use Rattle.pc_state_lock.specs.Heading.{Heading}
 use Rattle.pc_state_lock.specs.History.{Continues, longer, times_covered}
 use Rattle.pc_state_lock.specs.Views.{Standing, first_view, newcomer, joined, spent, with_ticket, with_turn, with_span, at_rest, with_longer, drawn, looked, IsCounted, counted, passed, compared}
-use Rattle.pc_state_lock.specs.Rule.{IsStaged, tickets, total, times_taken, tickets_out, Fits, IsAway, IsHome, IsPlaced, IsKeptAt, IsKept}
+use Rattle.pc_state_lock.specs.Rule.{IsStaged, tickets, times_taken, tickets_out, Fits, IsAway, IsHome, IsPlaced, IsKeptAt, IsKept}
 use Rattle.pc_state_lock.specs.declared.view.Stage.{Stage}
 use Rattle.pc_state_lock.specs.declared.view.Stage.TheVariants.{Rests, Waits, Turns}
 use Rattle.pc_state_lock.specs.declared.view.View.{View}

@@ -64,7 +64,7 @@ impl<V: Shown> StateLock<V> {
         }
     }
 
-    /// Makes a pass that has seen what `pass` has seen, and has taken no turn.
+    /// Makes a pass that has seen what `pass` has seen, and has no span. It takes no memory.
     pub fn split(&self, pass: &mut Pass<V>) -> Pass<V>
         requires { IsPassOf self.now pass.old }
         ensures same { IsAsBefore pass.old pass.new }
@@ -77,19 +77,23 @@ impl<V: Shown> StateLock<V> {
         }
     }
 
-    /// Ends the pass `other`: `pass` has seen what either has seen, and has the turns of both.
+    /// Ends the pass `other`: `pass` has seen what either has seen, and has the spans of both.
     pub fn join(&self, pass: &mut Pass<V>, other: Pass<V>)
         requires pass { IsPassOf self.now pass.old }
         requires other { IsPassOf self.now other × IsAtRest other }
-        ensures pass { IsPassOf self.now pass.new }
-        ensures rests { IsAtRest pass.old → IsAtRest pass.new }
-        ensures turn { HasTurn pass.old → HasTurn pass.new }
         ensures longer { (seen pass.new ≡ seen pass.old) ⊎ (seen pass.new ≡ seen other) }
         ensures this { Continues (seen pass.new) (seen pass.old) }
         ensures that { Continues (seen pass.new) (seen other) }
+
+        // No span is lost, and none is in both.
         ensures mine { mine pass.new ≡ mine pass.old ++ mine other }
         ensures apart { AreApart (mine pass.new) }
         ensures below { AreBelow (length (seen pass.new)) (mine pass.new) }
+
+        // It is still a pass of this lock, with the turn if it had it.
+        ensures pass { IsPassOf self.now pass.new }
+        ensures rests { IsAtRest pass.old → IsAtRest pass.new }
+        ensures turn { HasTurn pass.old → HasTurn pass.new }
     {
         self.table
             .shared
@@ -97,17 +101,19 @@ impl<V: Shown> StateLock<V> {
         self.table.shared.load::<Compare>(&mut pass.seat, DRAWN);
     }
 
-    /// Waits for the next turn and takes the value out. Where 2^64 - 1 tickets were drawn, it waits
-    /// for good.
+    /// Waits until all turns whose tickets were drawn before are over, and takes the value out. Once
+    /// 2^64 - 1 tickets are drawn, it waits for good.
     pub fn turn<R: Wait>(&self, rt: &R, pass: &mut Pass<V>) -> Held<V>
         requires pass { IsPassOf self.now pass.old }
         requires rests { IsAtRest pass.old }
-        ensures pass { IsPassOf self.now pass.new }
-        ensures turn { HasTurn pass.new }
         ensures heading { V.heading result.value ≡ heading_of V.heading self.now }
         ensures later { Continues (V.history result.value) (seen pass.old) }
         ensures seen { seen pass.new ≡ V.history result.value }
         ensures mine { mine pass.new ≡ mine pass.old }
+
+        // It is still a pass of this lock, and has the turn.
+        ensures pass { IsPassOf self.now pass.new }
+        ensures turn { HasTurn pass.new }
     {
         let ticket = self.draw(rt, pass);
         self.wait_for(rt, pass, ticket);
@@ -119,18 +125,21 @@ impl<V: Shown> StateLock<V> {
         Held { value }
     }
 
-    /// Ends the turn: puts the value back, and lets the next pass have it.
+    /// Ends the turn: puts the value back, for the pass with the next ticket. What the value has
+    /// beyond what the pass had seen are the events of this turn, which become a span of the pass.
     pub fn lay(&self, pass: &mut Pass<V>, held: Held<V>)
         requires pass { IsPassOf self.now pass.old }
         requires turn { HasTurn pass.old }
         requires heading { V.heading held.value ≡ heading_of V.heading self.now }
         requires later { Continues (V.history held.value) (seen pass.old) }
-        ensures pass { IsPassOf self.now pass.new }
-        ensures rests { IsAtRest pass.new }
         ensures seen { seen pass.new ≡ V.history held.value }
         ensures mine { mine pass.new ≡ (length (seen pass.old), length (seen pass.new)) ∷ mine pass.old }
         ensures apart { AreApart (mine pass.new) }
         ensures below { AreBelow (length (seen pass.new)) (mine pass.new) }
+
+        // It is still a pass of this lock, and has no turn.
+        ensures pass { IsPassOf self.now pass.new }
+        ensures rests { IsAtRest pass.new }
     {
         let Held { value } = held;
         let events = value.events();
@@ -142,7 +151,8 @@ impl<V: Shown> StateLock<V> {
         self.bells.ring(served);
     }
 
-    /// Takes a last turn, ends the lock and hands out the value.
+    /// Takes a last turn, as `turn` does, ends the lock and hands out the value. Passes that are left
+    /// take no more turns.
     pub fn close<R: Wait>(self, rt: &R, mut pass: Pass<V>) -> V
     where
         V: Drop,
