@@ -1,0 +1,1 @@
+//! Worked batches, and each fault.
