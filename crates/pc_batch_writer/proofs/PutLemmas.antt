@@ -1,12 +1,12 @@
 -- Texts put one after the other.
-use Rattle.std.proofs.Common.{◌≡◌, ℕ, zero, suc, ◌+◌, ◌<◌, ◌≤◌, ◌^◌, ◌/◌, ◌%◌, ℤ, pos, Bool, true, false, nat_lt, if◌then◌else◌, List, [], ◌∷◌, ◌++◌, length, map, drop, get_or, Option, Result, Ok, Err, refl, sym, ap, subst, ◌∙◌, append_assoc, length-append, drop-cons, add-one, arith}
+use Rattle.std.proofs.Common.{◌≡◌, ℕ, zero, suc, ◌+◌, ◌<◌, ◌≤◌, ◌/◌, ◌%◌, ℤ, pos, Bool, true, false, nat_lt, if◌then◌else◌, List, [], ◌∷◌, ◌++◌, length, map, drop, get_or, Option, Result, Ok, Err, refl, sym, ap, ◌∙◌, append_assoc, length-append, drop-cons, add-one, arith}
 use Rattle.std.specs.List.{flat_map}
 use Rattle.std.proofs.lemmas.List.{append-nil, drop_all}
 use Rattle.pc_model.specs.Record.{Record}
 use Rattle.pc_bytes.specs.Varint.{groups_of, shortest_of, zigzag_of}
 use Rattle.pc_batch_writer.specs.declared.fault.WriteFault.{WriteFault}
 use Rattle.pc_batch_writer.specs.declared.fault.WriteFault.TheVariants.{Empty, OffsetsFall, OffsetTooLarge, TimeTooFar, TooLong, NoMemory}
-use Rattle.pc_batch_writer.specs.Writing.{Fails, Puts, sized_spelling, nullable_spelling, header_spelling, headers_spelling, counted_spelling, stamps_spelling, contents_spelling, body_spelling, record_spelling}
+use Rattle.pc_batch_writer.specs.Writing.{Fails, Puts, sized_spelling, nullable_spelling, header_spelling, headers_spelling, counted_spelling, body_spelling, record_spelling}
 
 -- a part that was too long makes the whole too long
 pub Fails-more : (fault : WriteFault) (size more : ℕ) → size ≤ more → Fails size fault → Fails more fault

@@ -1,7 +1,7 @@
 -- What is written, step by step, is what is due.
-use Rattle.std.proofs.Common.{◌≡◌, ◌⊎◌, ℕ, zero, suc, ◌+◌, ◌-◌, ◌<◌, ◌≤◌, ◌^◌, ℤ, pos, Bool, true, false, cond, IsTrue, nat_lt, List, [], ◌∷◌, ◌++◌, length, map, drop, get_or, slice_index_or, fold, Option, Result, Ok, Err, IfOk, IfErr, OnOk, refl, sym, ap, subst, ◌∙◌, inl, inr, ⊎_elim, append_assoc, length-append, lt-ltb, le-ltb, ltb-true, ltb-false, arith}
-use Rattle.std.specs.Prelude.{All, ◌-ℤ◌, ◌||◌}
-use Rattle.std.specs.Int.{int_max}
+use Rattle.std.proofs.Common.{◌≡◌, ◌⊎◌, ℕ, zero, suc, ◌+◌, ◌-◌, ◌<◌, ◌≤◌, ◌^◌, ℤ, Bool, true, false, cond, IsTrue, nat_lt, List, [], ◌∷◌, ◌++◌, length, map, get_or, fold, Result, Ok, Err, IfOk, IfErr, OnOk, refl, sym, ap, subst, ◌∙◌, inl, inr, ⊎_elim, append_assoc, length-append, lt-ltb, le-ltb, ltb-true, ltb-false, arith}
+use Rattle.std.specs.Prelude.{All, ◌-ℤ◌, ◌||◌, ◌&&◌, FitsSigned}
+use Rattle.std.specs.Int.{int_max, w64}
 use Rattle.std.specs.List.{flat_map, list_all}
 use Rattle.std.proofs.lemmas.List.{length-map}
 use Rattle.std.proofs.lemmas.List.Folds.{list_all-map}
@@ -13,6 +13,9 @@ use Rattle.pc_batch_writer.specs.declared.fault.WriteFault.{WriteFault}
 use Rattle.pc_batch_writer.specs.declared.fault.WriteFault.TheVariants.{Empty, OffsetsFall, OffsetTooLarge, TimeTooFar, TooLong, NoMemory}
 use Rattle.pc_batch_writer.specs.declared.new_record.NewRecord.{NewRecord}
 use Rattle.pc_batch_writer.specs.Writing.{plain_new, span_spelling, producer_spelling, covered_spelling, record_spelling, batch_spelling, greatest_of, offsets_from, in_range, ranged_from, near, short, written_of, last_of, Fails, Gives, Answers, IsNear, IsWithin}
+use Rattle.pc_batch.specs.Batch.{Contents, IsBatch}
+use Rattle.pc_batch_writer.specs.Writing.{contents_of}
+use Rattle.pc_batch_writer.proofs.BatchLemmas.{Fits, AllFit, batch-is}
 use Rattle.pc_batch_writer.proofs.PutLemmas.{Fails-more, records-le}
 
 pub OnOk-then : {A E : Type 0} (r : Result A E) (P Q : Type 0) → (P → Q) → OnOk r P → OnOk r Q
@@ -126,6 +129,37 @@ ranged-is (Ok n) last e = in_range-is (nat_lt (2 ^ 63 - 2) n) n last refl e
     in_range-is false n last t e = let le : n ≤ 2 ^ 63 - 2 = ltb-false _ _ t in let k : n ≡ last = cc in (e, omega arith)
 ranged-is (Err f) last e = absurd cc
 
+last_of-ends : (lo last : ℕ) (rs : List Record) → offsets_from lo rs ≡ Ok last → last_of lo rs ≡ last
+last_of-ends lo last [] e = cc
+last_of-ends lo last (r ∷ rs) e = last_of-ends r.offset last rs (step (nat_lt lo r.offset) (offsets_from r.offset rs) (Err (OffsetsFall lo r.offset)) (OffsetsFall lo r.offset) last refl e).1
+
+and-true : (a b : Bool) → (a && b) ≡ true → (a ≡ true) × (b ≡ true)
+and-true true b e = (refl, e)
+and-true false b e = absurd cc
+
+-- the records after one fit the batch
+fit-rest : (base last : ℕ) (first : ℤ) (lo : ℕ) (rest : List NewRecord) → offsets_from lo (map plain_new rest) ≡ Ok last → list_all (λ (r : NewRecord). fits_64 (r.time -ℤ first)) rest ≡ true
+    → All (λ (r : NewRecord). FitsSigned w64 r.time) rest → AllFit base last first (lo + 1) (map plain_new rest)
+fit-rest base last first lo [] e near times = tt
+fit-rest base last first lo (r ∷ rest) e near times =
+    let s = step (nat_lt lo r.offset) (offsets_from r.offset (map plain_new rest)) (Err (OffsetsFall lo r.offset)) (OffsetsFall lo r.offset) last refl e in
+    let up : lo < r.offset = ltb-true _ _ s.0 in let split = and-true (fits_64 (r.time -ℤ first)) _ near in (
+      record { above = omega arith; within = (rises r.offset last rest s.1).above; near = split.0; time = times 0 r (omega arith) },
+      fit-rest base last first r.offset rest s.1 split.1 (λ k d lt. times (suc k) d (omega arith)),
+    )
+
+long-takes : (a b : Bool) (text made : List ℕ) → (let due : Result (List ℕ) WriteFault = cond (a || b) (Err TooLong) (Ok text) in due) ≡ Ok made → (a ≡ false) × (b ≡ false) × (text ≡ made)
+long-takes true b text made e = absurd cc
+long-takes false true text made e = absurd cc
+long-takes false false text made e = (refl, refl, cc)
+
+-- a batch that is short enough has short fields
+short-takes : (base last : ℕ) (covered made : List ℕ) → short base last covered ≡ Ok made → (last - base < 2 ^ 31) × (9 + length covered < 2 ^ 31) × (batch_spelling base covered ≡ made)
+short-takes base last covered made e =
+    let t = long-takes (nat_lt (2 ^ 31 - 1) (last - base)) (nat_lt (2 ^ 31 - 1) (9 + length covered)) (batch_spelling base covered) made e in
+    let a : last - base ≤ 2 ^ 31 - 1 = ltb-false _ _ t.0 in let b : 9 + length covered ≤ 2 ^ 31 - 1 = ltb-false _ _ t.1 in
+    (omega arith, omega arith, t.2)
+
 -- ---- the whole
 
 module _ (records : List NewRecord) (first : NewRecord) (rest : List NewRecord) (last : ℕ) (all : records ≡ first ∷ rest) (ranged : ranged_from first.offset (map plain_new rest) ≡ Ok last) where
@@ -157,7 +191,7 @@ module _ (records : List NewRecord) (first : NewRecord) (rest : List NewRecord) 
       let at : IsTrue (fits_64 ((get_or records k d).time -ℤ first.time)) = AllPass-from_list_all (λ (r : NewRecord). fits_64 (r.time -ℤ first.time)) records near k d lt in
       let r = rises first.offset last rest (ranged-is (offsets_from first.offset (map plain_new rest)) last ranged).0 in
       let both : (first.offset ≤ (get_or records k d).offset) × ((get_or records k d).offset ≤ last) =
-          subst (λ (l : List NewRecord). k < length l → (first.offset ≤ (get_or l k d).offset) × ((get_or l k d).offset ≤ last)) (sym all) (within-all first.offset last first rest refl r k d) lt in
+      subst (λ (l : List NewRecord). k < length l → (first.offset ≤ (get_or l k d).offset) × ((get_or l k d).offset ≤ last)) (sym all) (within-all first.offset last first rest refl r k d) lt in
       record { above = both.0; within = both.1; time = at }
     where
       within-all : (least last : ℕ) (r : NewRecord) (rest : List NewRecord) → r.offset ≡ least → Rises least last rest → (k : ℕ) (d : NewRecord) → k < length (r ∷ rest)
@@ -175,3 +209,26 @@ module _ (records : List NewRecord) (first : NewRecord) (rest : List NewRecord) 
       → Answers items (short first.offset last (covered_spelling first.offset last first.time (map plain_new records))) r → IfErr r (λ f. (f ≡ NoMemory) ⊎ (written_of (map plain_new records) ≡ Err f))
   due-err items (Ok v) near h = tt
   due-err items (Err f) near h = ⊎_elim (λ x. inl x) (λ x. inr (due-near near ∙ x)) h
+
+  -- what is written is a batch of the records
+  pub due-batch : {V : Type 0} (items : V → List ℕ) (r : Result V WriteFault) → list_all (λ (r : NewRecord). fits_64 (r.time -ℤ first.time)) records ≡ true
+      → Answers items (short first.offset last (covered_spelling first.offset last first.time (map plain_new records))) r → FitsSigned w64 first.time → OnOk r (All (λ (r : NewRecord). FitsSigned w64 r.time) records)
+      → IfOk r (λ v. IsBatch (items v) (contents_of (map plain_new records)))
+  due-batch items (Ok v) near h time times =
+      let covered = covered_spelling first.offset last first.time (map plain_new records) in
+      let inside = short-takes first.offset last covered (items v) h in
+      let rising = (ranged-is (offsets_from first.offset (map plain_new rest)) last ranged).0 in
+      let rs : map plain_new records ≡ plain_new first ∷ map plain_new rest = ap (map plain_new) all in
+      let contents : (let c : Contents = record { base = first.offset; last = last; control = false; records = map plain_new records } in c) ≡ contents_of (map plain_new records)
+      = ap (λ (l : List Record). record { base = first.offset; last = last; control = false; records = l }) rs
+      ∙ ap (λ (n : ℕ). record { base = first.offset; last = n; control = false; records = plain_new first ∷ map plain_new rest }) (sym (last_of-ends first.offset last (map plain_new rest) rising))
+      ∙ ap contents_of (sym rs) in
+      let near' : list_all (λ (r : NewRecord). fits_64 (r.time -ℤ first.time)) (first ∷ rest) ≡ true = ap (list_all (λ (r : NewRecord). fits_64 (r.time -ℤ first.time))) (sym all) ∙ near in
+      let times' : All (λ (r : NewRecord). FitsSigned w64 r.time) (first ∷ rest) = subst (All (λ (r : NewRecord). FitsSigned w64 r.time)) all times in
+      let split = and-true (fits_64 (first.time -ℤ first.time)) _ near' in
+      let head : Fits first.offset last first.time first.offset (plain_new first) = record { above = omega arith; within = batch-above; near = split.0; time = time } in
+      let tail = fit-rest first.offset last first.time first.offset rest rising split.1 (λ k d lt. times' (suc k) d (omega arith)) in
+      let fit : AllFit first.offset last first.time first.offset (map plain_new records) = subst (AllFit first.offset last first.time first.offset) (sym rs) (head, tail) in
+      subst (λ (y : List ℕ × Contents). IsBatch y.0 y.1) (λ i. (inside.2 i, contents i))
+      (batch-is first.offset last first.time (map plain_new records) batch-above batch-below inside.0 time fit (records-le first.offset first.time (map plain_new records)) inside.1)
+  due-batch items (Err f) near h time times = tt

@@ -1,5 +1,5 @@
 -- How a batch of records is spelled, every number in its shortest spelling, or why it is not.
-use Rattle.std.specs.Prelude.{◌≡◌, ◌≤◌, ◌<◌, ◌^◌, ℕ, ◌+◌, ◌-◌, ℤ, pos, ◌-ℤ◌, Bool, false, IsTrue, List, [], ◌∷◌, ◌++◌, length, map, fold, Option, Some, None, Result, Ok, Err, nat_lt, ◌||◌, ◌⊎◌, if◌then◌else◌}
+use Rattle.std.specs.Prelude.{◌≡◌, ◌≤◌, ◌<◌, ◌^◌, ℕ, ◌+◌, ◌-◌, ℤ, pos, ◌-ℤ◌, false, IsTrue, List, [], ◌∷◌, ◌++◌, length, map, fold, Option, Some, None, Result, Ok, Err, nat_lt, ◌||◌, ◌⊎◌, if◌then◌else◌}
 use Rattle.std.proofs.Common.{negsuc}
 use Rattle.std.specs.Int.{w16, w32, w64, int_max}
 use Rattle.std.specs.List.{flat_map, list_all}

@@ -93,12 +93,7 @@ fn covered(
 }
 
 /// Puts the attributes, the last offset's delta, the first time and the greatest.
-fn put_span(
-    out: &mut Vec<u8>,
-    delta: u32,
-    first: i64,
-    greatest: i64,
-) -> Result<(), AllocError>
+fn put_span(out: &mut Vec<u8>, delta: u32, first: i64, greatest: i64) -> Result<(), AllocError>
     requires { delta < 2 ^ 31 }
     ensures { OnOk result (out.new.items
         ≡ out.old.items ++ span_spelling delta first greatest) }

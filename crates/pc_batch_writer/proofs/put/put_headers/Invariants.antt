@@ -1,5 +1,5 @@
 -- What was put and what is left are all.
-use Rattle.std.proofs.Common.{◌≡◌, ◌≤◌, ◌+◌, ◌++◌, length, map, drop}
+use Rattle.std.proofs.Common.{◌≡◌, ◌≤◌, ◌++◌, length, map, drop}
 use Rattle.pc_batch_writer.specs.Writing.{plain_header, headers_spelling}
 use Rattle.pc_batch_writer.proofs.put.put_headers.Given as goal
 

@@ -1,5 +1,5 @@
 -- What was put and what is left are all.
-use Rattle.std.proofs.Common.{◌≡◌, ◌≤◌, ◌+◌, ◌++◌, length, map, drop}
+use Rattle.std.proofs.Common.{◌≡◌, ◌≤◌, ◌++◌, length, map, drop}
 use Rattle.std.specs.List.{flat_map}
 use Rattle.pc_batch_writer.specs.Writing.{plain_new, record_spelling}
 use Rattle.pc_batch_writer.proofs.put.put_records.Given as goal
