@@ -27,7 +27,7 @@ use Rattle.parcon.specs.declared.hand.Hand.{Hand}
 use Rattle.parcon.specs.declared.remark.Notice.{Notice}
 use Rattle.parcon.specs.declared.remark.Notice.TheVariants.{Refused, Stranger}
 use Rattle.parcon.specs.Hand.{AreIn, HasInHand, job_with, without}
-use Rattle.parcon.specs.Play.{Asked, Breaks, Calls, Comes, Fetches, IsAborted, Makes, Moment, Stores, Unless, call_notice, done_by, end_job, end_step, hand_after, poll_notice, settled_notice, take_notice}
+use Rattle.parcon.specs.Play.{Asked, Breaks, Calls, Fetches, IsAborted, Makes, Moment, Stores, Unless, call_notice, done_by, end_job, end_step, hand_after, poll_notice, settled_notice, take_notice}
 use Rattle.parcon.proofs.HandLemmas.{Expects, assign-expects, commit-expects, crash-expects, end-expects, job_with-but, job_with-is, lose-expects, poll-expects, revoke-expects, take-expects}
 
 -- ---- the parts of what is in hand
@@ -286,7 +286,7 @@ module _ (given : Given) (h h' : List Event) (told : Bool) (m m' : Moment) where
           let own = job_with-is (IsExpected given h) t jobs job (sym found) has.expected in
           let is = ends own.0 in
           let expects =
-              end-expects given h jobs (expects-of given h jobs hand has) t job (sym found) in
+          end-expects given h jobs (expects-of given h jobs hand has) t job (sym found) in
           record {
             comes = record {
               asked = Err client.NoMemory;

@@ -27,7 +27,7 @@ use Rattle.pc_task.specs.Jobs.{PlainJob, plain_job, due_outcome}
 use Rattle.pc_task.specs.declared.job.Job.{Job as TaskJob}
 use Rattle.pc_engine.specs.declared.fault.EngineFault.{EngineFault}
 use Rattle.pc_engine.specs.declared.jobs.OpenJob.{OpenJob}
-use Rattle.pc_engine.specs.Effect.{IsExpected, assign_after, assign_refusal, assign_step, assign_with, commit_after, commit_refusal, commit_step, commit_with, crash_after, crash_refusal, crash_step, lose_after, lose_refusal, lose_step, revoke_after, revoke_refusal, revoke_step, is_full, job_to_do, no_record, poll_after, poll_left, poll_refusal, poll_step, settle_current, settle_step, take_after, take_next, take_refusal, take_step}
+use Rattle.pc_engine.specs.Effect.{IsExpected, assign_after, assign_refusal, assign_step, assign_with, commit_after, commit_refusal, commit_step, crash_after, crash_refusal, crash_step, lose_after, lose_refusal, lose_step, revoke_after, revoke_refusal, revoke_step, is_full, job_to_do, no_record, poll_after, poll_left, poll_refusal, poll_step, settle_current, settle_step, take_after, take_next, take_refusal, take_step}
 use Rattle.pc_engine.specs.OpenJobs.{kept_job, open_job}
 use Rattle.pc_engine.proofs.DispatchLemmas.{next-open}
 use Rattle.pc_engine.proofs.OpenJobsLemmas.{open_job-dispatch, open_job-settled}

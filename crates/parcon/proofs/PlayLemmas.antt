@@ -1,5 +1,5 @@
 -- What a line's call does to a play, and what lines do one after the other.
-use Rattle.std.proofs.Common.{◌≡◌, ◌≤◌, ◌<◌, inl, inr, ℕ, ◌+◌, Bool, true, false, List, [], ◌∷◌, ◌++◌, length, take, get_or, Option, None, refl, ap, sym, subst, ◌∙◌, arith, zero, suc, add-one}
+use Rattle.std.proofs.Common.{◌≡◌, ◌<◌, inl, inr, ℕ, ◌+◌, Bool, true, false, List, [], ◌∷◌, ◌++◌, length, take, get_or, Option, None, refl, ap, sym, subst, ◌∙◌, arith, zero, suc, add-one}
 use Rattle.std.specs.Prelude.{IsErr, IsTrue, OnErr, Result, Ok, Err, is_none}
 use Rattle.std.proofs.Math.Bool.{Bool-set}
 use Rattle.std.proofs.lemmas.List.{append-nil}
@@ -26,7 +26,7 @@ use Rattle.parcon.specs.declared.remark.Remark.{Remark}
 use Rattle.parcon.specs.declared.remark.Notice.{Notice}
 use Rattle.parcon.specs.declared.hand.Hand.{Hand}
 use Rattle.parcon.specs.Hand.{AreIn, HasInHand}
-use Rattle.parcon.specs.Play.{Asked, Asks, Breaks, Comes, Entry, LeadTo, LeadsTo, Makes, IsPlayed, Moment, Play, PlaysTo, StopsIn, Trace, after_line, remarks_on, start, step_of}
+use Rattle.parcon.specs.Play.{Asked, Asks, Breaks, Entry, LeadTo, LeadsTo, Makes, IsPlayed, Moment, Play, PlaysTo, StopsIn, Trace, after_line, remarks_on, start, step_of}
 use Rattle.parcon.proofs.CallLemmas.{aborted-same}
 use Rattle.parcon.proofs.HandLemmas.{expects-start}
 use Rattle.pc_script.specs.PlayScript.{ArePlayable, IsPlayable}

@@ -1,22 +1,23 @@
 -- A play over files and a link that tell what they hold, where nothing fails, is decided by its
 -- inputs.
-use Rattle.std.proofs.Common.{◌≡◌, ◌⊎◌, ◌≤◌, ◌<◌, ◌+◌, inl, inr, ℕ, ◌-◌, Bool, true, false, ◌&&◌, cond, List, [], ◌∷◌, map, length, take, Option, Some, None, Result, Ok, Err, refl, ap, sym, subst, ◌∙◌, arith, true≢false}
-use Rattle.std.specs.Prelude.{ℤ, is_none, nat_lt, ok_or, unwrap_or, pos, codes, if◌then◌else◌, ◌^◌}
+use Rattle.std.proofs.Common.{◌≡◌, ◌⊎◌, ◌≤◌, ◌+◌, inl, inr, ℕ, ◌-◌, Bool, true, false, ◌&&◌, cond, List, [], ◌∷◌, map, length, Option, Some, None, Result, Ok, Err, refl, ap, sym, subst, ◌∙◌, arith, true≢false}
+use Rattle.std.specs.Prelude.{ℤ, bytes_eq, is_none, nat_lt, not, ok_or, unwrap_or, pos, negsuc, if◌then◌else◌, ◌^◌}
 use Rattle.std.specs.List.{AllByRecursion}
 use Rattle.std.specs.Ordering.{int_eq}
 use Rattle.std.proofs.lemmas.Bool.{cases_Bool, lt-ltb, ltb-true}
 use Rattle.std.proofs.lemmas.Bool.Decides.{Decides-int_eq}
+use Rattle.std.proofs.lemmas.Slice.Eq.{bytes_eq-Decides}
 use Rattle.pc_model.specs.declared.commit.Commit.{Commit as StoredCommit}
 use Rattle.pc_model.specs.declared.event.Event.{Event}
-use Rattle.pc_model.specs.declared.api.TheConstants.{NO_ERROR, UNKNOWN_TOPIC_OR_PARTITION}
+use Rattle.pc_model.specs.declared.api.TheConstants.{METADATA_MAX, NO_ERROR, OFFSET_METADATA_TOO_LARGE, UNKNOWN_TOPIC_OR_PARTITION}
 use Rattle.pc_model.specs.Record.{Record}
-use Rattle.pc_model.specs.Broker.{Broker, has_part}
-use Rattle.pc_model.specs.Given.{Given}
+use Rattle.pc_model.specs.Broker.{Broker, Membership, has_part, membership_refusal, place_code}
+use Rattle.pc_model.specs.Given.{Given, no_commit}
 use Rattle.pc_model.specs.Known.{commit_of}
 use Rattle.pc_world.specs.World.{HasRisen}
 use Rattle.pc_offset_client.specs.declared.fault.ClientFault.{ClientFault}
 use Rattle.pc_offset_client.specs.declared.fault.ClientFault.TheVariants as client
-use Rattle.pc_offset_client.specs.Client.{CommitGives, FetchGives, commit_code}
+use Rattle.pc_offset_client.specs.Client.{CommitGives, FetchGives, TOPIC, commit_code, item_of, kept_for, with_commit}
 use Rattle.pc_script.specs.declared.play.PlayAct.{PlayAct}
 use Rattle.pc_script.specs.declared.play.PlayAct.TheVariants.{Assign, Commit, Revoke}
 use Rattle.pc_script.specs.declared.play.PlayLine.{PlayLine}
@@ -33,7 +34,7 @@ use Rattle.parcon.specs.Play.{Asked, Asks, Entry, Fetches, LineStep, Moment, Pla
 use Rattle.parcon.specs.Ending.{lines_in, output_of, wanted_status}
 use Rattle.parcon.specs.Written.{with_bytes}
 use Rattle.parcon.specs.Promise.{Ends, FilesSeen, IsCall, Outside, given_of, link_at}
-use Rattle.parcon.specs.Told.{AreTold, EndsAlike, IsFaultless, IsTold, IsToldCall, ToldPlay, answer_told, asks_link, failure_count, fetched_from, has_failed, is_accepted, store_told, store_unless, store_with, stored_by, told_answer, told_end, told_lines, told_play, told_reads}
+use Rattle.parcon.specs.Told.{AreTold, EndsAlike, IsFaultless, IsTold, IsToldCall, Serves, ToldPlay, answer_told, asks_link, failure_count, fetched_from, has_failed, is_accepted, store_told, store_unless, store_with, stored_by, told_answer, told_end, told_lines, told_play, told_reads}
 use Rattle.parcon.proofs.ReadingLemmas.{risen-earlier, risen-later}
 
 cond-true : {A : Type 0} (b : Bool) (x y : A) → b ≡ true → cond b x y ≡ x
@@ -49,10 +50,10 @@ fetched-is : (b : Broker) (p : ℕ) (asked : Asked) → FetchGives b p asked
     → asked ≡ fetched_from b p
 fetched-is b p (Ok c) gives failed forgot =
     ap (λ (x : StoredCommit). Ok x) gives.1
-    ∙ sym (cond-true (has_part b (codes "log") (pos p)) _ _ gives.0)
+    ∙ sym (cond-true (has_part b TOPIC (pos p)) _ _ gives.0)
 fetched-is b p (Err (client.Refused code)) gives failed forgot =
     ap (λ (x : ℤ). Err (client.Refused x)) gives.1
-    ∙ sym (cond-false (has_part b (codes "log") (pos p)) _ _ gives.0)
+    ∙ sym (cond-false (has_part b TOPIC (pos p)) _ _ gives.0)
 fetched-is b p (Err client.LinkFailed) gives failed forgot = absurd (failed refl)
 fetched-is b p (Err client.NoMemory) gives failed forgot = absurd (forgot refl)
 fetched-is b p (Err (client.BadReply fault)) gives failed forgot = absurd gives
@@ -69,15 +70,13 @@ stored-is : (b b' : Broker) (p : ℕ) (c : StoredCommit) (asked : Asked)
     → (asked ≡ Err client.NoMemory → ⊥)
     → (done_by asked ≡ done_by (stored_by b p c)) × (b' ≡ store_with b p c)
 stored-is b b' p c (Ok x) gives failed forgot =
-    let is : is_accepted b p c ≡ true = (Decides-int_eq (commit_code b p c) NO_ERROR).1 gives.code in
-    (
+    let is : is_accepted b p c ≡ true = (Decides-int_eq (commit_code b p c) NO_ERROR).1 gives.code in (
       ap done_by (sym (cond-true (is_accepted b p c) _ _ is)),
       gives.stored ∙ sym (cond-true (is_accepted b p c) _ _ is),
     )
 stored-is b b' p c (Err (client.Refused code)) gives failed forgot =
     let is : is_accepted b p c ≡ false = not-equal (commit_code b p c) NO_ERROR
-    (λ (e : commit_code b p c ≡ NO_ERROR). gives.other (gives.is ∙ e)) in
-    (
+    (λ (e : commit_code b p c ≡ NO_ERROR). gives.other (gives.is ∙ e)) in (
       ap (λ (x : ℤ). Err (client.Refused x)) gives.is
           ∙ ap done_by (sym (cond-false (is_accepted b p c) _ _ is)),
       gives.same ∙ sym (cond-false (is_accepted b p c) _ _ is),
@@ -86,6 +85,37 @@ stored-is b b' p c (Err client.LinkFailed) gives failed forgot = absurd (failed 
 stored-is b b' p c (Err client.NoMemory) gives failed forgot = absurd (forgot refl)
 stored-is b b' p c (Err (client.BadReply fault)) gives failed forgot = absurd gives
 stored-is b b' p c (Err (client.OtherReply asked got)) gives failed forgot = absurd gives
+
+-- a broker that serves the part
+served : (b : Broker) (p : ℕ) → Serves b p → has_part b TOPIC (pos p) ≡ true
+served b p serves =
+    ap (λ (t : List ℕ). bytes_eq TOPIC t && nat_lt p b.parts) serves.topic
+    ∙ ap (λ (x : Bool). bytes_eq TOPIC TOPIC && x) (lt-ltb p b.parts serves.part)
+    ∙ ap (λ (x : Bool). x && true) ((bytes_eq-Decides TOPIC TOPIC).1 refl)
+
+pub served-fetch : (b : Broker) (p : ℕ) → Serves b p → fetched_from b p ≡ Ok (kept_for b p)
+served-fetch b p serves = cond-true (has_part b TOPIC (pos p)) _ _ (served b p serves)
+
+not-too-long : (n : ℕ) → n ≤ METADATA_MAX → nat_lt METADATA_MAX n ≡ false
+not-too-long n short = elim (cases_Bool (nat_lt METADATA_MAX n)) [
+  | inl long ↦ let more = ltb-true METADATA_MAX n long in absurd (omega (arith, short, more))
+  | inr fits ↦ fits
+]
+
+pub served-commit : (b : Broker) (p : ℕ) (c : StoredCommit) → Serves b p
+    → length c.map ≤ METADATA_MAX
+    → (stored_by b p c ≡ Ok no_commit) × (store_with b p c ≡ with_commit b p c)
+served-commit b p c serves short =
+    let code : commit_code b p c ≡ NO_ERROR =
+    ap (λ (m : Option Membership). unwrap_or (membership_refusal m [] (negsuc 0))
+    (place_code b TOPIC (item_of p c))) serves.members
+    ∙ ap (λ (x : Bool). if not x then UNKNOWN_TOPIC_OR_PARTITION
+    else if nat_lt METADATA_MAX (length c.map) then OFFSET_METADATA_TOO_LARGE else NO_ERROR)
+    (served b p serves)
+    ∙ ap (λ (x : Bool). if x then OFFSET_METADATA_TOO_LARGE else NO_ERROR)
+    (not-too-long (length c.map) short) in
+    let is : is_accepted b p c ≡ true = (Decides-int_eq (commit_code b p c) NO_ERROR).1 code in
+    (cond-true (is_accepted b p c) _ _ is, cond-true (is_accepted b p c) _ _ is)
 
 -- ---- one line
 
@@ -398,19 +428,19 @@ pub calls-alike : (words : List (List ℕ)) (files files2 : FilesSeen)
     → EndsAlike after after2 s s2 history history2
 calls-alike words files files2 before before2 after after2 s s2 history history2 same store written
     first second = record {
-  status_is = first.status_is ∙ ap wanted_status lines ∙ sym second.status_is;
-  history_is = first.history_is ∙ ap (λ (t : ToldPlay). t.play.history) end
-      ∙ sym second.history_is;
-  store_is = first.store_is ∙ ap (λ (t : ToldPlay). t.store) end ∙ sym second.store_is;
-  written_is = first.written_is
-      ∙ ap (λ (w : Option (List ℕ)). with_bytes w (output_of (wanted_status (told_lines words files))
-      (told_end words files before.store).play)) written
-      ∙ ap (λ (l : Result (List PlayLine) Status). with_bytes before2.written
-      (output_of (wanted_status l) (told_end words files before.store).play)) lines
-      ∙ ap (λ (t : ToldPlay). with_bytes before2.written
-      (output_of (wanted_status (told_lines words files2)) t.play)) end
-      ∙ sym second.written_is;
-}
+      status_is = first.status_is ∙ ap wanted_status lines ∙ sym second.status_is;
+      history_is = first.history_is ∙ ap (λ (t : ToldPlay). t.play.history) end
+          ∙ sym second.history_is;
+      store_is = first.store_is ∙ ap (λ (t : ToldPlay). t.store) end ∙ sym second.store_is;
+      written_is = first.written_is
+          ∙ ap (λ (w : Option (List ℕ)). with_bytes w (output_of (wanted_status (told_lines words files))
+          (told_end words files before.store).play)) written
+          ∙ ap (λ (l : Result (List PlayLine) Status). with_bytes before2.written
+          (output_of (wanted_status l) (told_end words files before.store).play)) lines
+          ∙ ap (λ (t : ToldPlay). with_bytes before2.written
+          (output_of (wanted_status (told_lines words files2)) t.play)) end
+          ∙ sym second.written_is;
+    }
   where
     lines : told_lines words files ≡ told_lines words files2
     lines = ap (λ (c : List ℕ → Option (List ℕ)). lines_to_play words (told_reads words c)) same

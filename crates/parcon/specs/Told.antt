@@ -1,17 +1,17 @@
 -- The play over files and a link that tell what they hold, where nothing fails: its inputs alone
 -- decide it.
-use Rattle.std.specs.Prelude.{ℕ, ◌≡◌, ◌+◌, ◌&&◌, Bool, true, false, List, [], ◌∷◌, map, Option, Some, None, Result, Ok, Err, if◌then◌else◌, is_none, nat_lt, length, pos}
+use Rattle.std.specs.Prelude.{ℕ, ◌≡◌, ◌<◌, ◌+◌, ◌&&◌, Bool, true, false, List, [], ◌∷◌, map, Option, Some, None, Result, Ok, Err, if◌then◌else◌, is_none, nat_lt, length, pos}
 use Rattle.std.specs.List.{AllByRecursion}
 use Rattle.std.specs.Ordering.{int_eq}
 use Rattle.pc_model.specs.declared.commit.Commit.{Commit as StoredCommit}
 use Rattle.pc_model.specs.declared.event.Event.{Event}
 use Rattle.pc_model.specs.declared.api.TheConstants.{NO_ERROR, UNKNOWN_TOPIC_OR_PARTITION}
-use Rattle.pc_model.specs.Broker.{Broker, has_part}
+use Rattle.pc_model.specs.Broker.{Broker, has_part, membership_of}
 use Rattle.pc_model.specs.Given.{Given, no_commit}
 use Rattle.pc_model.specs.Known.{commit_of}
 use Rattle.pc_world.specs.World.{HasRisen}
 use Rattle.pc_offset_client.specs.declared.fault.ClientFault.TheVariants.{LinkFailed, Refused}
-use Rattle.pc_offset_client.specs.Client.{TOPIC, commit_code, kept_for, with_commit}
+use Rattle.pc_offset_client.specs.Client.{GROUP, TOPIC, commit_code, kept_for, with_commit}
 use Rattle.pc_engine.specs.declared.fault.EngineFault.{EngineFault}
 use Rattle.pc_engine.specs.Effect.{assign_refusal, commit_refusal, revoke_refusal}
 use Rattle.pc_script.specs.declared.play.PlayAct.{PlayAct}
@@ -90,6 +90,13 @@ store_told given h (Commit p) b =
 store_told given h (Revoke p) b =
     store_unless (revoke_refusal given h p) b (store_with b p (commit_of given h p).commit)
 store_told given h act b = b
+
+-- The broker has the topic of the client, with this part, and the client's group has no generation:
+-- it refuses nothing that a play asks for the part.
+pub record Serves (b : Broker) (p : ℕ) : Type 0 where
+  pub topic : b.topic ≡ TOPIC
+  pub part : p < b.parts
+  pub members : membership_of b GROUP ≡ None
 
 -- ---- the play
 

@@ -9,5 +9,4 @@ ghost use Rattle.pc_offset_store.specs.Steps.{AreAnswered, after_frames};
 pub fn the_store_is_the_fold_of_its_frames()
     ensures { (frames : List (List ℕ × List ℕ)) (old new : Broker) → AreAnswered frames old new
         → new ≡ after_frames (map (λ f. f.0) frames) old }
-{
-}
+{}

@@ -77,35 +77,35 @@ pub returns-in_err-play_line-clause-err : goal.returns-in_err-play_line-clause-e
 returns-in_err-play_line-clause-err g c =
     on-err c.from_residual.result (λ jobs has. lead-stops (g.L.Link.is_told c.args.engine.now.link)
     c.args.engine.now.given
-      (record {
-        history = c.args.engine.now.journal.events;
-        hand = jobs;
-        remarks = c.args.remarks.now.items;
-      })
-      c.args.lines.now c.loop-line.line-index
-      (get_or c.args.lines.now c.loop-line.line-index (record { line = 0; act = Assign 0 }))
-      (record { line = 0; act = Assign 0 }) (moment (g.L.Link.store c.args.engine.now.link) (g.L.Link.faults c.args.engine.now.link))
-      (moment (g.L.Link.store c.loop-line.engine.link) (g.L.Link.faults c.loop-line.engine.link))
-      (moment (g.L.Link.store c.play_line.new.engine.link)
-      (g.L.Link.faults c.play_line.new.engine.link))
-      c.loop-line.engine.journal.events c.play_line.new.engine.journal.events
-      c.loop-line.hand c.loop-line.remarks.items c.loop-line-test.true refl
-      (c.loop-line.invariant.plays jobs has)
-      (subst (λ (given : Given). (jobs : List PlainJob)
-      → HasInHand given c.loop-line.engine.journal.events jobs c.loop-line.hand
-      → Breaks (g.L.Link.is_told c.args.engine.now.link) given c.loop-line.engine.journal.events jobs
-      (get_or c.args.lines.now c.loop-line.line-index (record { line = 0; act = Assign 0 })).act
-      (moment (g.L.Link.store c.loop-line.engine.link) (g.L.Link.faults c.loop-line.engine.link))
-      (moment (g.L.Link.store c.play_line.new.engine.link)
-      (g.L.Link.faults c.play_line.new.engine.link))
-      c.play_line.new.engine.journal.events)
-      c.loop-line.invariant.given
-      (subst (λ (told : Bool). (jobs : List PlainJob)
-      → HasInHand c.loop-line.engine.given c.loop-line.engine.journal.events jobs c.loop-line.hand
-      → Breaks told c.loop-line.engine.given c.loop-line.engine.journal.events jobs
-      (get_or c.args.lines.now c.loop-line.line-index (record { line = 0; act = Assign 0 })).act
-      (moment (g.L.Link.store c.loop-line.engine.link) (g.L.Link.faults c.loop-line.engine.link))
-      (moment (g.L.Link.store c.play_line.new.engine.link)
-      (g.L.Link.faults c.play_line.new.engine.link))
-      c.play_line.new.engine.journal.events)
-      c.loop-line.invariant.told c.in_err-play_line.ensures.err)))
+    (record {
+      history = c.args.engine.now.journal.events;
+      hand = jobs;
+      remarks = c.args.remarks.now.items;
+    })
+    c.args.lines.now c.loop-line.line-index
+    (get_or c.args.lines.now c.loop-line.line-index (record { line = 0; act = Assign 0 }))
+    (record { line = 0; act = Assign 0 }) (moment (g.L.Link.store c.args.engine.now.link) (g.L.Link.faults c.args.engine.now.link))
+    (moment (g.L.Link.store c.loop-line.engine.link) (g.L.Link.faults c.loop-line.engine.link))
+    (moment (g.L.Link.store c.play_line.new.engine.link)
+    (g.L.Link.faults c.play_line.new.engine.link))
+    c.loop-line.engine.journal.events c.play_line.new.engine.journal.events
+    c.loop-line.hand c.loop-line.remarks.items c.loop-line-test.true refl
+    (c.loop-line.invariant.plays jobs has)
+    (subst (λ (given : Given). (jobs : List PlainJob)
+    → HasInHand given c.loop-line.engine.journal.events jobs c.loop-line.hand
+    → Breaks (g.L.Link.is_told c.args.engine.now.link) given c.loop-line.engine.journal.events jobs
+    (get_or c.args.lines.now c.loop-line.line-index (record { line = 0; act = Assign 0 })).act
+    (moment (g.L.Link.store c.loop-line.engine.link) (g.L.Link.faults c.loop-line.engine.link))
+    (moment (g.L.Link.store c.play_line.new.engine.link)
+    (g.L.Link.faults c.play_line.new.engine.link))
+    c.play_line.new.engine.journal.events)
+    c.loop-line.invariant.given
+    (subst (λ (told : Bool). (jobs : List PlainJob)
+    → HasInHand c.loop-line.engine.given c.loop-line.engine.journal.events jobs c.loop-line.hand
+    → Breaks told c.loop-line.engine.given c.loop-line.engine.journal.events jobs
+    (get_or c.args.lines.now c.loop-line.line-index (record { line = 0; act = Assign 0 })).act
+    (moment (g.L.Link.store c.loop-line.engine.link) (g.L.Link.faults c.loop-line.engine.link))
+    (moment (g.L.Link.store c.play_line.new.engine.link)
+    (g.L.Link.faults c.play_line.new.engine.link))
+    c.play_line.new.engine.journal.events)
+    c.loop-line.invariant.told c.in_err-play_line.ensures.err)))
