@@ -44,25 +44,37 @@ module _ {A : Type 0} where
   overlap (x ∷ p) (y ∷ q) ys xs e l = let same : p ++ ys ≡ q ++ xs = cc in overlap p q ys xs same l
 
   -- of two lists that one list continues, the longer continues the shorter
-  pub Continues-between : (zs ys xs : List A) → Continues zs ys → Continues zs xs → length xs ≤ length ys → Continues ys xs
+  pub Continues-between : (zs ys xs : List A) → Continues zs ys → Continues zs xs → length xs ≤ length ys
+      → Continues ys xs
   Continues-between zs ys xs f g l = overlap f.added g.added ys xs (sym f.is ∙ g.is) l
 
-  pub longer-cases : (xs ys : List A) → ((length xs < length ys) × (longer xs ys ≡ ys)) ⊎ ((length ys ≤ length xs) × (longer xs ys ≡ xs))
+  pub longer-cases : (xs ys : List A) → ((length xs < length ys)
+      × (longer xs ys ≡ ys)) ⊎ ((length ys ≤ length xs) × (longer xs ys ≡ xs))
   longer-cases xs ys = ⊎_elim
-      (λ (e : nat_lt (length xs) (length ys) ≡ true). inl (ltb-true (length xs) (length ys) e, ap (λ (b : Bool). if b then ys else xs) e))
-      (λ (e : nat_lt (length xs) (length ys) ≡ false). inr (ltb-false (length xs) (length ys) e, ap (λ (b : Bool). if b then ys else xs) e))
+      (λ (e : nat_lt (length xs) (length ys) ≡ true). inl (
+        ltb-true (length xs) (length ys) e,
+        ap
+            (λ (b : Bool). if b then ys else xs) e,
+      ))
+      (λ (e : nat_lt (length xs) (length ys) ≡ false). inr (
+        ltb-false (length xs) (length ys) e,
+        ap
+            (λ (b : Bool). if b then ys else xs) e,
+      ))
       (true_or_false (nat_lt (length xs) (length ys)))
 
   pub longer-own : (zs xs ys : List A) → Continues zs xs → Continues zs ys → Continues (longer xs ys) xs
   longer-own zs xs ys f g = let P : List A → Type 0 = λ l. Continues l xs in ⊎_elim
-      (λ (t : (length xs < length ys) × (longer xs ys ≡ ys)). let l = t.0 in subst P (sym t.1) (Continues-between zs ys xs g f (omega arith)))
+      (λ (t : (length xs < length ys) × (longer xs ys ≡ ys)). let l = t.0 in
+      subst P (sym t.1) (Continues-between zs ys xs g f (omega arith)))
       (λ (t : (length ys ≤ length xs) × (longer xs ys ≡ xs)). subst P (sym t.1) (Continues-same xs))
       (longer-cases xs ys)
 
   pub longer-other : (zs xs ys : List A) → Continues zs xs → Continues zs ys → Continues (longer xs ys) ys
   longer-other zs xs ys f g = let P : List A → Type 0 = λ l. Continues l ys in ⊎_elim
       (λ (t : (length xs < length ys) × (longer xs ys ≡ ys)). subst P (sym t.1) (Continues-same ys))
-      (λ (t : (length ys ≤ length xs) × (longer xs ys ≡ xs)). subst P (sym t.1) (Continues-between zs xs ys f g t.0))
+      (λ (t : (length ys ≤ length xs) × (longer xs ys ≡ xs)). subst P (sym t.1)
+      (Continues-between zs xs ys f g t.0))
       (longer-cases xs ys)
 
   pub longer-within : (zs xs ys : List A) → Continues zs xs → Continues zs ys → Continues zs (longer xs ys)
@@ -74,7 +86,8 @@ module _ {A : Type 0} where
   -- where the one is the whole list already, it is the longer
   pub longer-whole : (zs xs ys : List A) → xs ≡ zs → Continues zs ys → longer xs ys ≡ zs
   longer-whole zs xs ys e g = ⊎_elim
-      (λ (t : (length xs < length ys) × (longer xs ys ≡ ys)). let l = t.0 in let m = Continues-length zs ys g in absurd (omega (arith, ap length e)))
+      (λ (t : (length xs < length ys) × (longer xs ys ≡ ys)). let l = t.0 in
+      let m = Continues-length zs ys g in absurd (omega (arith, ap length e)))
       (λ (t : (length ys ≤ length xs) × (longer xs ys ≡ xs)). t.1 ∙ e)
       (longer-cases xs ys)
 
@@ -84,7 +97,8 @@ module _ {A : Type 0} where
       (λ (t : (length ys ≤ length xs) × (longer xs ys ≡ xs)). inl t.1)
       (longer-cases xs ys)
 
-pub times_covered-append : (place : ℕ) (xs ys : List (ℕ × ℕ)) → times_covered place (xs ++ ys) ≡ times_covered place xs + times_covered place ys
+pub times_covered-append : (place : ℕ) (xs ys : List (ℕ × ℕ))
+    → times_covered place (xs ++ ys) ≡ times_covered place xs + times_covered place ys
 times_covered-append place [] ys = omega arith
 times_covered-append place (x ∷ xs) ys = omega (arith, times_covered-append place xs ys)
 

@@ -1,4 +1,4 @@
--- Lists that grow, newest first, and spans of places in them. The oldest entry of a list has place 0.
+-- Lists that grow, newest first, and spans of places in them. The oldest entry has place 0.
 use Rattle.std.specs.Prelude.{◌≡◌, ℕ, ◌+◌, ◌≤◌, List, [], ◌∷◌, ◌++◌, length, nat_le, nat_lt, ◌&&◌, if◌then◌else◌}
 
 -- the later list has some more entries, newer than all of the earlier one

@@ -1,4 +1,4 @@
--- The rule of the lock's table: what its words, its slot and the views of all passes are at any moment.
+-- The rule of the lock's table: what its words, its slot and all views are at any moment.
 use Rattle.std.specs.Prelude.{◌≡◌, ℕ, ◌+◌, ◌^◌, ◌<◌, ◌≤◌, Bool, true, false, List, [], ◌∷◌, length, Option, Some}
 use mathlib.Core.Option.{none, some}
 use mathlib.Core.Option as core
@@ -15,8 +15,10 @@ use Rattle.pc_state_lock.specs.declared.view.View.{View}
 -- `serving` on below `drawn`; the one that is served has the slot, and has seen the whole list
 abbrev pub IsStaged : List Event → ℕ → ℕ → Bool → (ℕ → ℕ) → ℕ → List Event → Stage → Type 0
 IsStaged list serving drawn away owner id seen Rests = Unit {0}
-IsStaged list serving drawn away owner id seen (Waits ticket) = (serving ≤ ticket) × (ticket < drawn) × (owner ticket ≡ id)
-IsStaged list serving drawn away owner id seen (Turns ticket) = (ticket ≡ serving) × (ticket < drawn) × (owner ticket ≡ id) × (away ≡ true) × (seen ≡ list)
+IsStaged list serving drawn away owner id seen (Waits ticket) =
+    (serving ≤ ticket) × (ticket < drawn) × (owner ticket ≡ id)
+IsStaged list serving drawn away owner id seen (Turns ticket) =
+    (ticket ≡ serving) × (ticket < drawn) × (owner ticket ≡ id) × (away ≡ true) × (seen ≡ list)
 
 -- how many tickets a pass has at this stage
 abbrev pub tickets : Stage → ℕ
@@ -39,14 +41,17 @@ module _ {V : Type 0} where
   tickets_out views = total (λ v. tickets v.stage) views
 
   -- what holds of the view of pass id
-  pub record Fits (list : List Event) (serving drawn : ℕ) (away : Bool) (owner : ℕ → ℕ) (id : ℕ) (v : View V) : Type 0 where
+  pub record Fits (list : List Event) (serving drawn : ℕ) (away : Bool) (owner : ℕ → ℕ) (id : ℕ)
+      (v : View V) : Type 0 where
     pub seen : Continues list v.seen
     pub told : Continues list v.told
-    pub within : (place : ℕ) → length v.seen ≤ place → length v.told ≤ place → times_covered place v.mine ≡ 0
+    pub within : (place : ℕ) → length v.seen ≤ place → length v.told ≤ place
+        → times_covered place v.mine ≡ 0
     pub staged : IsStaged list serving drawn away owner id v.seen v.stage
 
   -- the slot is out with the pass whose ticket is served
-  pub record IsAway (serving : ℕ) (homes : List (core.Option (Option V))) (views : List (View V)) : Type 0 where
+  pub record IsAway (serving : ℕ) (homes : List (core.Option (Option V)))
+      (views : List (View V)) : Type 0 where
     pub empty : homes ≡ none ∷ []
     pub holder : ℕ
     pub view : View V
@@ -61,20 +66,29 @@ module _ {V : Type 0} where
       pub headed : heading value ≡ heading start
       pub listed : history value ≡ list
 
-    abbrev pub IsPlaced : ℕ → List Event → List (core.Option (Option V)) → List (View V) → Bool → Type 0
+    -- where the slot is
+    abbrev pub IsPlaced : ℕ → List Event → List (core.Option (Option V)) → List (View V) → Bool
+        → Type 0
     IsPlaced serving list homes views false = IsHome list homes
     IsPlaced serving list homes views true = IsAway serving homes views
 
-    pub record IsKeptAt (drawn serving : ℕ) (list : List Event) (homes : List (core.Option (Option V))) (views : List (View V)) : Type 0 where
+    -- the rule at these words, slots and views, where the shared history is the list
+    pub record IsKeptAt (drawn serving : ℕ) (list : List Event)
+        (homes : List (core.Option (Option V))) (views : List (View V)) : Type 0 where
+      -- whether the slot is out
       pub away : Bool
       -- which pass has a ticket
       pub owner : ℕ → ℕ
+      -- all tickets from `serving` on are out with some pass
       pub all_out : drawn ≡ serving + tickets_out views
       pub small : drawn < 2 ^ 64
       pub placed : IsPlaced serving list homes views away
-      pub fits : (id : ℕ) (v : View V) → get_elem? views id ≡ some v → Fits list serving drawn away owner id v
+      pub fits : (id : ℕ) (v : View V) → get_elem? views id ≡ some v
+          → Fits list serving drawn away owner id v
+      -- no place is in two spans
       pub apart : (place : ℕ) → times_taken place views ≤ 1
 
+    -- the rule of the table
     pub record IsKept (s : State (Option V) (View V)) : Type 0 where
       pub drawn : ℕ
       pub serving : ℕ

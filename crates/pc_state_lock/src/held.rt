@@ -12,7 +12,8 @@ pub struct Held<V> {
 impl<V> Held<V> {
     /// Lends the value, to read and to change.
     pub fn value(&mut self) -> &mut V
-        ensures* writes_back { sem 𝓛 (Lends (the_row V.row) V.row self.entry result (λ w. record { value = w })) }
+        ensures* writes_back { sem 𝓛
+            (Lends (the_row V.row) V.row self.entry result (λ w. record { value = w })) }
         ensures value { result.now ≡ self.old.value }
     {
         &mut self.value

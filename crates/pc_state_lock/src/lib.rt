@@ -1,4 +1,4 @@
-//! A lock whose value is worth a heading, which never changes, and a list of events, which only grows.
+//! A lock whose value stands for a heading, which no turn changes, and a list of events, which grows.
 //!
 //! Threads share the lock and have a pass each. A pass knows which events it has seen and which of
 //! them its own turns added, so that what each thread did stands in one history.

@@ -12,6 +12,8 @@ load-requires g c = (search rules, search rules, compares _ _ _ _ _ _)
 pub returns-clause-turn : goal.returns-clause-turn
 returns-clause-turn g c = λ was. record {
   ticket = was.ticket;
-  stage = ap (λ (m : Standing g.row.V.Denot). m.0.stage) c.load.ensures.2.is ∙ (ap (λ (m : Standing g.row.V.Denot). m.0.stage) c.join_seat.ensures.2 ∙ was.stage);
-  slots = ap (λ (m : Standing g.row.V.Denot). m.1) c.load.ensures.2.is ∙ (ap (λ (m : Standing g.row.V.Denot). m.1) c.join_seat.ensures.2 ∙ was.slots);
+  stage = ap (λ (m : Standing g.row.V.Denot). m.0.stage) c.load.ensures.2.is ∙ (ap
+      (λ (m : Standing g.row.V.Denot). m.0.stage) c.join_seat.ensures.2 ∙ was.stage);
+  slots = ap (λ (m : Standing g.row.V.Denot). m.1) c.load.ensures.2.is ∙ (ap
+      (λ (m : Standing g.row.V.Denot). m.1) c.join_seat.ensures.2 ∙ was.slots);
 }

@@ -11,7 +11,8 @@ new-requires g c =
     let items = c.push_reserved.ensures.items
     ∙ (ap (λ (l : List (Option g.row.V.Denot)). l ++ Some c.args.value ∷ []) c.in-Ok-with_capacity.ensures.items
     ∙ ap (λ (x : g.row.V.Denot). Some x ∷ []) (sym c.of-start.ensures)) in
-    let count = c.events-events.ensures ∙ ap (λ (x : g.row.V.Denot). length (g.V.Shown.history x)) (sym c.of-start.ensures) in
+    let count = c.events-events.ensures ∙ ap (λ (x : g.row.V.Denot). length (g.V.Shown.history x))
+    (sym c.of-start.ensures) in
     subst (λ (l : List (Option g.row.V.Denot)). IsKept g.V.Shown.heading g.V.Shown.history start
     (opening (0 ∷ 0 ∷ c.events-events.result ∷ []) l (first_view g.V.Shown.history start))) (sym items)
     (opens g.V.Shown.heading g.V.Shown.history start c.events-events.result count)
