@@ -1,3 +1,4 @@
 pub mod BatchLemmas
+pub mod GeneratorLemmas
 pub mod PutLemmas
 pub mod WriteLemmas

@@ -5,11 +5,13 @@
 mod checks;
 mod fault;
 mod fields;
+mod generator;
 mod new_record;
 mod put;
 mod write;
 
 pub use fault::WriteFault;
+pub use generator::{Generated, generate};
 pub use new_record::{NewHeader, NewRecord};
 pub use write::write_batch;
 

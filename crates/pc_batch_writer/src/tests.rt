@@ -1,6 +1,6 @@
 //! Worked batches, and each fault.
 
-use crate::{NewHeader, NewRecord, WriteFault, write_batch};
+use crate::{NewHeader, NewRecord, WriteFault, generate, write_batch};
 use pc_batch::read_batch;
 use std::alloc::{AllocError, Global};
 use std::test::Fail;
@@ -151,5 +151,67 @@ fn headers_and_nulls(rt: HostRuntime) -> Result<(), Fail> {
     ];
     assert!(rt; written.len() == 61 + spelled.len());
     assert_eq!(rt; &written[61..], spelled.as_slice());
+    Ok(())
+}
+
+/// A seed, how many records, their number in each of the first and the last part, the sum of the bytes
+/// of all values, and how many fail. The sums are those of a program in another language.
+const MADE: [(u64, u32, u64, u64, u64, usize); 3] = [
+    (1, 1, 1, 0, 6_678, 0),
+    (1, 2_000, 250, 250, 6_987_206, 34),
+    (7, 900, 113, 112, 2_997_780, 14),
+];
+
+/// How many records a log has, and the sum of the bytes of their values.
+fn totals(log: &[u8]) -> Option<(u64, u64)> {
+    let (mut at, mut count, mut sum) = (0, 0u64, 0u64);
+    for _ in 0..log.len() {
+        if at == log.len() as u64 {
+            break;
+        }
+        let batch = read_batch(log, at).ok()?;
+        for record in batch.records() {
+            count = count.saturating_add(1);
+            for byte in record.value? {
+                sum = sum.saturating_add(u64::from(*byte));
+            }
+        }
+        at = batch.end();
+    }
+    Some((count, sum))
+}
+
+#[test]
+fn generated_logs(rt: HostRuntime) -> Result<(), Fail> {
+    for (seed, records, first, last, sum, fails) in MADE {
+        let made = generate(rt.alloc(), seed, records)?;
+        let (mut counts, mut total) = ([0; 8], 0u64);
+        for (part, log) in made.logs.iter().enumerate() {
+            let (count, bytes) = totals(log).ok_or("a log")?;
+            if part < 8 {
+                counts[part] = count;
+            }
+            total = total.saturating_add(bytes);
+        }
+        assert_eq!(rt;
+            (counts[0], counts[7], total),
+            (first, last, sum),
+            "{seed} {records}"
+        );
+        assert_eq!(rt; made.fails.as_slice().len(), fails, "{seed} {records}");
+    }
+    Ok(())
+}
+
+/// The first record of seed 1 has the number 6C576FAC43FD007C.
+#[test]
+fn the_first_generated_record(rt: HostRuntime) -> Result<(), Fail> {
+    let made = generate(rt.alloc(), 1, 1)?;
+    let log = made.logs.first().ok_or("a log")?;
+    let batch = read_batch(log, 0).map_err(|_| AllocError)?;
+    let record = batch.records().next().ok_or("a record")?;
+    assert_eq!(rt; (record.offset, record.time), (0, 0));
+    assert_eq!(rt; record.key, Some(b"k774".as_slice()));
+    assert_eq!(rt; record.value, Some([106; 63].as_slice()));
     Ok(())
 }
