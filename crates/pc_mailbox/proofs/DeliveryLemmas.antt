@@ -1,17 +1,17 @@
 -- Each step of a mailbox keeps the rule of its queue.
-use Rattle.std.proofs.Common.{◌≡◌, ◌≢◌, ◌<◌, ◌≤◌, ◌⊎◌, ℕ, zero, suc, ◌+◌, List, [], ◌∷◌, ◌++◌, length, set, sym, refl, ap, ◌∙◌, subst, inl, inr, ⊎_elim, append_assoc, append-nil, length-append, length-set, replicate, slice_get, Option, None, Some, MatchOption, IfSome, lt_of_not-le, arith, if◌then◌else◌, ◌==◌}
+use Rattle.std.proofs.Common.{map, ◌≡◌, ◌≢◌, ◌<◌, ◌≤◌, ◌⊎◌, ℕ, zero, suc, ◌+◌, List, [], ◌∷◌, ◌++◌, length, set, sym, refl, ap, ◌∙◌, subst, inl, inr, ⊎_elim, append_assoc, append-nil, length-append, length-set, replicate, slice_get, Option, None, Some, MatchOption, IfSome, lt_of_not-le, arith, if◌then◌else◌, ◌==◌}
 use Rattle.std.proofs.lemmas.Bool.{eq-eqb, ne_eqb}
-use Rattle.std.proofs.lemmas.List.{get_or-set_same, get_or-set_other, replicate-append-replicate}
+use Rattle.std.proofs.lemmas.List.{get_or-set_same, get_or-set_other, map-append, replicate-append-replicate}
 use mathlib.Core.Logic.{dite}
 use mathlib.Core.Option.{some, some-injective, some-ne-none}
 use native.Mathlib.Decide.{ℕ_discrete}
 use lib.ListN.{get_elem?}
-use Rattle.crossbeam_queue.specs.Fifo.{Pushes, Pops, Forks}
+use Rattle.crossbeam_queue.specs.Fifo.{Merges, Learns, Pushes, Pops, Forks}
 use Rattle.crossbeam_queue.proofs.Lists.{at_set}
 use Rattle.pc_mailbox.specs.declared.delivery.Letter.{Letter}
 use Rattle.pc_mailbox.specs.declared.delivery.Known.{Known}
-use Rattle.pc_mailbox.specs.declared.delivery.Known.TheVariants.{Sends, Receives, Spare}
-use Rattle.pc_mailbox.specs.Delivery.{placed, queued, of_sender, Fits, Delivers, taken_of, misses_of, with_put, with_taken, TakesNext, with_miss, with_sender, new_sender}
+use Rattle.pc_mailbox.specs.declared.delivery.Known.TheVariants.{Sends, Receives, Joins, Spare}
+use Rattle.pc_mailbox.specs.Delivery.{placed, queued, of_sender, Fits, Delivers, taken_of, misses_of, with_put, with_taken, TakesNext, with_miss, with_sender, new_sender, number_of, joined, inbox_of, sender_of, IsFront, Agrees}
 use Rattle.pc_mailbox.specs.Ends.{Name, Receiving, TakenNext}
 
 -- Lists by places
@@ -19,6 +19,9 @@ use Rattle.pc_mailbox.specs.Ends.{Name, Receiving, TakenNext}
 not-nil : {A : Type 0} (a : List A) (b : A) (c : List A) → a ++ b ∷ c ≡ [] → ⊥
 not-nil [] b c e = cc
 not-nil (x ∷ xs) b c e = cc
+
+first-is : {A : Type 0} (a b : A) (xs ys : List A) → a ∷ xs ≡ b ∷ ys → a ≡ b
+first-is a b xs ys e = cc
 
 -- an entry of a list with one more is an entry of the list, or the last
 at_more : {A : Type 0} (l : List A) (a b : A) (j : ℕ) → get_elem? (l ++ a ∷ []) j ≡ some b → (get_elem? l j ≡ some b) ⊎ ((j ≡ length l) × (a ≡ b))
@@ -62,7 +65,8 @@ module _ {T : Type 0} where
   -- what follows some of the results has the next place
   placed-next : (n k : ℕ) (v : T) (xs ys : List T) (rest : List (ℕ × T)) → placed n xs ++ (k, v) ∷ rest ≡ placed n ys → k ≡ n + length xs
   placed-next n k v [] [] rest e = cc
-  placed-next n k v [] (y ∷ ys) rest e = let p : (k, v) ≡ (n, y) = cc in let q : k ≡ n = ap (λ (t : ℕ × T). t.0) p in omega arith
+  placed-next n k v [] (y ∷ ys) rest e =
+      let q : k ≡ n = ap (λ (t : ℕ × T). t.0) (first-is (k, v) (n, y) rest (placed (suc n) ys) e) in omega arith
   placed-next n k v (x ∷ xs) [] rest e = cc
   placed-next n k v (x ∷ xs) (y ∷ ys) rest e =
       let t : placed (suc n) xs ++ (k, v) ∷ rest ≡ placed (suc n) ys = cc in let q : k ≡ suc n + length xs = placed-next (suc n) k v xs ys rest t in omega arith
@@ -95,6 +99,8 @@ module _ {T : Type 0} where
   fits-put reader taken seat put number l pass j mine other (Sends m own) f =
       (f.0, f.1 ∙ sym (with_at-else number l put m (λ e. other (sym f.0 ∙ ap seat e ∙ mine))), f.2)
   fits-put reader taken seat put number l pass j mine other (Receives got misses) f = f
+  fits-put reader taken seat put number l pass j mine other (Joins m own got misses) f =
+      (f.0, f.1 ∙ sym (with_at-else number l put m (λ e. other (sym f.0 ∙ ap seat e ∙ mine))), f.2, f.3, f.4)
   fits-put reader taken seat put number l pass j mine other Spare f = tt
 
   -- another pass fits on where the inbox knows more
@@ -102,6 +108,7 @@ module _ {T : Type 0} where
       → (u : Known T) → Fits reader taken seat put j u → Fits reader more seat put j u
   fits-taken reader taken more seat put pass j mine longer other (Sends m own) f = (f.0, f.1, let h = f.2 in omega arith)
   fits-taken reader taken more seat put pass j mine longer other (Receives got misses) f = absurd (other (sym f.0 ∙ mine))
+  fits-taken reader taken more seat put pass j mine longer other (Joins m own got misses) f = absurd (other (sym f.3 ∙ mine))
   fits-taken reader taken more seat put pass j mine longer other Spare f = tt
 
   -- another pass fits on where a new sender has a pass
@@ -110,7 +117,19 @@ module _ {T : Type 0} where
   fits-seat reader taken seat put number place j far (Sends m own) f = let h = f.2 in
       (with_at-else number place seat m (λ e. omega arith) ∙ f.0, f.1, f.2)
   fits-seat reader taken seat put number place j far (Receives got misses) f = f
+  fits-seat reader taken seat put number place j far (Joins m own got misses) f = let h = f.2 in
+      (with_at-else number place seat m (λ e. omega arith) ∙ f.0, f.1, f.2, f.3, f.4)
   fits-seat reader taken seat put number place j far Spare f = tt
+
+  -- another pass fits on where a sender's pass is another
+  fits-moved : (reader : ℕ) (taken : List (List T)) (seat : ℕ → ℕ) (put : ℕ → List T) (number place was j : ℕ) → seat number ≡ was → j ≢ was
+      → (u : Known T) → Fits reader taken seat put j u → Fits reader taken (with_at number place seat) put j u
+  fits-moved reader taken seat put number place was j mine other (Sends m own) f =
+      (with_at-else number place seat m (λ e. other (sym f.0 ∙ ap seat e ∙ mine)) ∙ f.0, f.1, f.2)
+  fits-moved reader taken seat put number place was j mine other (Receives got misses) f = f
+  fits-moved reader taken seat put number place was j mine other (Joins m own got misses) f =
+      (with_at-else number place seat m (λ e. other (sym f.0 ∙ ap seat e ∙ mine)) ∙ f.0, f.1, f.2, f.3, f.4)
+  fits-moved reader taken seat put number place was j mine other Spare f = tt
 
   -- The steps
 
@@ -252,6 +271,69 @@ module _ {T : Type 0} where
   -- there is one more sender
   pub opens : (pass : ℕ) (v : Known T) (got : List (List T)) (misses : ℕ) → v ≡ Receives got misses → Forks Delivers pass v (with_sender v) (new_sender v)
   opens pass v got misses e = subst (λ v. Forks Delivers pass v (with_sender v) (new_sender v)) (sym e) (opens-own pass got misses)
+
+  joins-own : (pass : ℕ) (got : List (List T)) (misses other number : ℕ) (put : List T) → Merges Delivers pass (Receives got misses) other (Sends number put) (Joins number put got misses) Spare
+  joins-own pass got misses other number put items views h at apart there =
+      let mine = h.known pass (Receives got misses) at in let both : Known T = Joins number put got misses in
+      let was : get_elem? views other ≡ some (Sends number put)
+      = ⊎_elim (λ (x : (other ≡ pass) × (both ≡ Sends number put)). absurd (apart x.0)) (λ (x : (other ≢ pass) × (get_elem? views other ≡ some (Sends number put))). x.1) (at_set views pass other both (Sends number put) there) in
+      let theirs = h.known other (Sends number put) was in let seat : ℕ → ℕ = with_at number pass h.seat in
+      let Now : ℕ → Known T → Type 0 = λ j u. j ≢ other → Fits h.reader h.taken seat h.put j u in
+      let now = known-set Now views pass both (λ _. (with_at-here number pass h.seat, theirs.1, theirs.2, mine.0, mine.1))
+      (λ j u _ e far. fits-moved h.reader h.taken h.seat h.put number pass other j theirs.0 far u (h.known j u e)) in record {
+        reader = h.reader;
+        taken = h.taken;
+        seat = seat;
+        put = h.put;
+        in_order = h.in_order;
+        none_other = h.none_other;
+        known = known-set (Fits h.reader h.taken seat h.put) (set views pass both) other Spare tt (λ j u far e. now j u e far);
+      }
+
+  -- a sender is compared with the inbox
+  pub joins : (pass other : ℕ) (v w : Known T) (got : List (List T)) (misses number : ℕ) (put : List T) → v ≡ Receives got misses → w ≡ Sends number put → Merges Delivers pass v other w (joined v w) Spare
+  joins pass other v w got misses number put e d =
+      subst (λ (y : Known T × Known T). Merges Delivers pass y.0 other y.1 (joined y.0 y.1) Spare) (λ i. (sym e i, sym d i)) (joins-own pass got misses other number put)
+
+  splits-own : (pass : ℕ) (number : ℕ) (put : List T) (got : List (List T)) (misses : ℕ) → Forks Delivers pass (Joins number put got misses) (Receives got misses) (Sends number put)
+  splits-own pass number put got misses items views h at =
+      let mine = h.known pass (Joins number put got misses) at in let w : Known T = Receives got misses in let there : List (Known T) = set views pass w in
+      let seat : ℕ → ℕ = with_at number (length there) h.seat in record {
+        reader = h.reader;
+        taken = h.taken;
+        seat = seat;
+        put = h.put;
+        in_order = h.in_order;
+        none_other = h.none_other;
+        known = known-snoc (Fits h.reader h.taken seat h.put) there (Sends number put)
+            (known-set (Fits h.reader h.taken seat h.put) views pass w (mine.3, mine.4)
+            (λ j u far e. fits-moved h.reader h.taken h.seat h.put number (length there) pass j mine.0 far u (h.known j u e)))
+            (with_at-here number (length there) h.seat, mine.1, mine.2);
+      }
+
+  -- and is a sender again
+  pub splits : (pass : ℕ) (v : Known T) (number : ℕ) (put : List T) (got : List (List T)) (misses : ℕ) → v ≡ Joins number put got misses → Forks Delivers pass v (inbox_of v) (sender_of v)
+  splits pass v number put got misses e = subst (λ v. Forks Delivers pass v (inbox_of v) (sender_of v)) (sym e) (splits-own pass number put got misses)
+
+  values-placed : (n : ℕ) (xs : List T) → map (λ (p : ℕ × T). p.1) (placed n xs) ≡ xs
+  values-placed n [] = refl
+  values-placed n (x ∷ xs) = ap (λ l. x ∷ l) (values-placed (suc n) xs)
+
+  front-of : (taken put : List T) (rest : List (ℕ × T)) → placed 0 taken ++ rest ≡ placed 0 put → IsFront taken put
+  front-of taken put rest e = (
+    map (λ (p : ℕ × T). p.1) rest,
+    sym (values-placed 0 put) ∙ ap (map (λ (p : ℕ × T). p.1)) (sym e) ∙ map-append (λ (p : ℕ × T). p.1) (placed 0 taken) rest
+        ∙ ap (λ l. l ++ map (λ (p : ℕ × T). p.1) rest) (values-placed 0 taken),
+  )
+
+  agrees-own : (pass : ℕ) (number : ℕ) (put : List T) (got : List (List T)) (misses : ℕ) → Learns Delivers pass (Joins number put got misses) (λ items. Agrees (Joins number put got misses))
+  agrees-own pass number put got misses items views h at =
+      let mine = h.known pass (Joins number put got misses) at in
+      front-of (of_sender got number) put (queued number items)
+      (ap (λ t. placed 0 (of_sender t number) ++ queued number items) mine.4 ∙ h.in_order number ∙ ap (placed 0) (sym mine.1))
+
+  pub agrees : (pass : ℕ) (v : Known T) (number : ℕ) (put : List T) (got : List (List T)) (misses : ℕ) → v ≡ Joins number put got misses → Learns Delivers pass v (λ items. Agrees v)
+  agrees pass v number put got misses e = subst (λ v. Learns Delivers pass v (λ items. Agrees v)) (sym e) (agrees-own pass number put got misses)
 
   -- What clauses see
 

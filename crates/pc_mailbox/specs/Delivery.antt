@@ -5,7 +5,7 @@ use mathlib.Core.Option.{some}
 use lib.ListN.{get_elem?}
 use Rattle.pc_mailbox.specs.declared.delivery.Letter.{Letter}
 use Rattle.pc_mailbox.specs.declared.delivery.Known.{Known}
-use Rattle.pc_mailbox.specs.declared.delivery.Known.TheVariants.{Sends, Receives, Spare}
+use Rattle.pc_mailbox.specs.declared.delivery.Known.TheVariants.{Sends, Receives, Joins, Spare}
 
 module _ {T : Type 0} where
   -- results with their places, the first of which is n
@@ -27,6 +27,7 @@ module _ {T : Type 0} where
   abbrev pub Fits : ℕ → List (List T) → (ℕ → ℕ) → (ℕ → List T) → ℕ → Known T → Type 0
   Fits reader taken seat put pass (Sends number own) = (seat number ≡ pass) × (own ≡ put number) × (number < length taken)
   Fits reader taken seat put pass (Receives got misses) = (reader ≡ pass) × (got ≡ taken)
+  Fits reader taken seat put pass (Joins number own got misses) = (seat number ≡ pass) × (own ≡ put number) × (number < length taken) × (reader ≡ pass) × (got ≡ taken)
   Fits reader taken seat put pass Spare = Unit {0}
 
   -- The rule of the queue, in every state: of each sender, what was taken and then what the queue
@@ -44,24 +45,35 @@ module _ {T : Type 0} where
   abbrev pub put_of : Known T → List T
   put_of (Sends number put) = put
   put_of (Receives taken misses) = []
+  put_of (Joins number put taken misses) = put
   put_of Spare = []
 
   -- the results that were taken, of each sender
   abbrev pub taken_of : Known T → List (List T)
   taken_of (Sends number put) = []
   taken_of (Receives taken misses) = taken
+  taken_of (Joins number put taken misses) = taken
   taken_of Spare = []
 
   -- how often none was found
   abbrev pub misses_of : Known T → ℕ
   misses_of (Sends number put) = 0
   misses_of (Receives taken misses) = misses
+  misses_of (Joins number put taken misses) = misses
   misses_of Spare = 0
+
+  -- a sender's number
+  abbrev pub number_of : Known T → ℕ
+  number_of (Sends number put) = number
+  number_of (Receives taken misses) = 0
+  number_of (Joins number put taken misses) = number
+  number_of Spare = 0
 
   -- a sender puts one more
   abbrev pub with_put : Known T → T → Known T
   with_put (Sends number put) x = Sends number (put ++ x ∷ [])
   with_put (Receives taken misses) x = Receives taken misses
+  with_put (Joins number put taken misses) x = Joins number put taken misses
   with_put Spare x = Spare
 
   -- the inbox took one more of a sender
@@ -83,3 +95,21 @@ module _ {T : Type 0} where
 
   abbrev pub new_sender : Known T → Known T
   new_sender v = Sends (length (taken_of v)) []
+
+  -- the inbox and a sender, and each of them again
+  abbrev pub joined : Known T → Known T → Known T
+  joined v w = Joins (number_of w) (put_of w) (taken_of v) (misses_of v)
+
+  abbrev pub inbox_of : Known T → Known T
+  inbox_of v = Receives (taken_of v) (misses_of v)
+
+  abbrev pub sender_of : Known T → Known T
+  sender_of v = Sends (number_of v) (put_of v)
+
+  -- the one list begins with the other
+  abbrev pub IsFront : List T → List T → Type 0
+  IsFront front all = (rest : List T) × (all ≡ front ++ rest)
+
+  -- what was taken of the sender is the front of what it put
+  abbrev pub Agrees : Known T → Type 0
+  Agrees v = IsFront (of_sender (taken_of v) (number_of v)) (put_of v)

@@ -1,6 +1,6 @@
 //! The rule of the queue: of each sender, what was taken and then what the queue holds is what it put.
 
-use crossbeam_queue::protocol::{Lesson, Outcome, Protocol, Split};
+use crossbeam_queue::protocol::{Join, Lesson, Outcome, Protocol, Split};
 use std::collections::LinkedList;
 
 /// A result on its way.
@@ -22,6 +22,13 @@ pub(crate) enum Known<T> {
     },
     /// Of each sender the results that were taken, and how often none was found.
     Receives {
+        taken: LinkedList<LinkedList<T>>,
+        misses: u64,
+    },
+    /// Both, while a sender is compared with the inbox.
+    Joins {
+        number: u32,
+        put: LinkedList<T>,
         taken: LinkedList<LinkedList<T>>,
         misses: u64,
     },
@@ -88,4 +95,30 @@ impl<T> Split<Known<T>> for Misses {
     ghost left = { with_miss };
 
     ghost right = { λ v. Spare };
+}
+
+/// A sender and the inbox are compared.
+pub(crate) struct Compares;
+
+impl<T> Join<Known<T>> for Compares {
+    ghost use Rattle.pc_mailbox.specs.Delivery.{joined};
+    ghost use Rattle.pc_mailbox.specs.declared.delivery.Known.TheVariants.{Spare};
+
+    ghost both = { joined };
+
+    ghost spent = { Spare };
+}
+
+impl<T> Split<Known<T>> for Compares {
+    ghost use Rattle.pc_mailbox.specs.Delivery.{inbox_of, sender_of};
+
+    ghost left = { inbox_of };
+
+    ghost right = { sender_of };
+}
+
+impl<T> Lesson<Letter<T>, Known<T>> for Compares {
+    ghost use Rattle.pc_mailbox.specs.Delivery.{Agrees};
+
+    ghost fact = { λ v items. Agrees v };
 }

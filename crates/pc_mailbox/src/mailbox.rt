@@ -1,9 +1,10 @@
 //! The mailbox. Clauses see which one it is.
 
 ghost use Rattle.std.specs.Prelude.{◌≡◌, ◌↔◌, ◌≤◌, ◌<◌, ◌^◌, ℕ, [], ◌∷◌, ◌++◌, None, length, replicate, vec_len, slice_get, Some, IfOk, IfErr, IfSome, OnOk, OnErr};
+ghost use Rattle.pc_mailbox.specs.Delivery.{of_sender, IsFront};
 ghost use Rattle.pc_mailbox.specs.Ends.{TakenNext, Missed};
 
-use crate::delivery::{Delivery, Known, Letter, Misses, Opens, Puts, Takes};
+use crate::delivery::{Compares, Delivery, Known, Letter, Misses, Opens, Puts, Takes};
 use crate::inbox::Inbox;
 use crate::sender::Sender;
 use crossbeam_queue::RuledSegQueue;
@@ -92,6 +93,30 @@ impl<T: Drop> Mailbox<T> {
                 self.count_miss(inbox);
                 None
             }
+        }
+    }
+
+    /// Compares a sender with the inbox, and changes nothing: what was taken of the sender is the
+    /// front of what it put. It may wait for another thread that puts or takes.
+    pub fn compare<R: Wait>(&self, rt: &R, inbox: &mut Inbox<T>, sender: Sender<T>) -> Sender<T>
+        requires inbox { inbox.old.mailbox ≡ self.now }
+        requires sender { sender.mailbox ≡ self.now }
+        ensures front { IsFront (of_sender inbox.old.taken sender.number) sender.put }
+        ensures stays { inbox.new ≡ inbox.old }
+        ensures same { result ≡ sender }
+    {
+        let Sender {
+            pass,
+            number,
+            count,
+        } = sender;
+        self.queue.absorb::<Compares>(&mut inbox.pass, pass);
+        self.queue.len_as::<Compares, R>(rt, &mut inbox.pass);
+        let pass = self.queue.another::<Compares>(&mut inbox.pass);
+        Sender {
+            pass,
+            number,
+            count,
         }
     }
 

@@ -106,6 +106,8 @@ fn results_are_taken_in_the_order_in_which_they_were_put(rt: HostRuntime) -> Res
     for ticket in [Some(3), Some(1), Some(2), None] {
         assert_eq!(rt; taken_ticket(&rt, &mailbox, &mut inbox), ticket);
     }
+    let _first = mailbox.compare(&rt, &mut inbox, first);
+    assert_eq!(rt; taken_ticket(&rt, &mailbox, &mut inbox), None);
     Ok(())
 }
 
