@@ -1,5 +1,5 @@
 -- One more number of the generator.
-use Rattle.std.proofs.Common.{◌≡◌, ◌≢◌, ℕ, zero, suc, ◌+◌, ◌-◌, ◌*◌, ◌/◌, ◌%◌, ◌<◌, ◌≤◌, ◌^◌, Bool, true, false, cond, eqb, List, [], ◌∷◌, ◌++◌, length, map, Result, OnOk, refl, sym, ap, ◌∙◌, append_assoc, length-append, eq-eqb, ne_eqb, arith}
+use Rattle.std.proofs.Common.{◌≡◌, ◌≢◌, ℕ, suc, ◌+◌, ◌-◌, ◌/◌, ◌%◌, ◌<◌, ◌≤◌, List, [], ◌∷◌, ◌++◌, length, map, Result, OnOk, refl, sym, ap, ◌∙◌, append_assoc, eq-eqb, ne_eqb, arith}
 use Rattle.std.proofs.lemmas.List.{append-nil, length-map, map-append}
 use mathlib.Core.Logic.{dite}
 use native.Mathlib.Decide.{ℕ_discrete}
@@ -21,11 +21,11 @@ pub log-other : (part i : ℕ) (waiting : List Record) (x : ℕ) (xs : List ℕ)
 unfolding log_from
 log-other part i waiting x xs other = let e = ne_eqb (i % 8) part other in rw e refl
 
-log-full : (part i : ℕ) (waiting : List Record) (x : ℕ) (xs : List ℕ) → i % 8 ≡ part → length waiting ≡ 99 → log_from part i waiting (x ∷ xs) ≡ batch_text (waiting ++ record_of (i / 8) x ∷ []) ++ log_from part (i + 1) [] xs
+pub log-full : (part i : ℕ) (waiting : List Record) (x : ℕ) (xs : List ℕ) → i % 8 ≡ part → length waiting ≡ 99 → log_from part i waiting (x ∷ xs) ≡ batch_text (waiting ++ record_of (i / 8) x ∷ []) ++ log_from part (i + 1) [] xs
 unfolding log_from
 log-full part i waiting x xs own full = let e = eq-eqb (i % 8) part own in let f = eq-eqb (length waiting) 99 full in rw (e, f) refl
 
-log-waits : (part i : ℕ) (waiting : List Record) (x : ℕ) (xs : List ℕ) → i % 8 ≡ part → length waiting < 99 → log_from part i waiting (x ∷ xs) ≡ log_from part (i + 1) (waiting ++ record_of (i / 8) x ∷ []) xs
+pub log-waits : (part i : ℕ) (waiting : List Record) (x : ℕ) (xs : List ℕ) → i % 8 ≡ part → length waiting < 99 → log_from part i waiting (x ∷ xs) ≡ log_from part (i + 1) (waiting ++ record_of (i / 8) x ∷ []) xs
 unfolding log_from
 log-waits part i waiting x xs own few = let e = eq-eqb (i % 8) part own in let f = ne_eqb (length waiting) 99 (λ k. omega arith) in rw (e, f) refl
 

@@ -1,4 +1,5 @@
 pub mod BatchLemmas
+pub mod GeneratedLogs
 pub mod GeneratorLemmas
 pub mod PutLemmas
 pub mod WriteLemmas

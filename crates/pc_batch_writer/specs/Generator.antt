@@ -1,6 +1,8 @@
 -- The logs of a run over made-up records, and the records that fail in it.
-use Rattle.std.specs.Prelude.{ℕ, zero, suc, ◌+◌, ◌*◌, ◌/◌, ◌%◌, ◌^◌, pos, List, [], ◌∷◌, ◌++◌, length, replicate, Some, Result, Ok, Err, decimal, string_bytes, ◌==◌, if◌then◌else◌}
+use Rattle.std.specs.Prelude.{◌≡◌, ℕ, zero, suc, ◌+◌, ◌*◌, ◌/◌, ◌%◌, ◌^◌, pos, List, [], ◌∷◌, ◌++◌, length, replicate, Some, Result, Ok, Err, decimal, string_bytes, ◌==◌, if◌then◌else◌}
+use Rattle.std.specs.List.{flat_map, AllByRecursion}
 use Rattle.pc_model.specs.Record.{Record}
+use Rattle.pc_batch.specs.Batch.{Contents, IsBatch, given_by}
 use Rattle.pc_model.specs.declared.outcome.FailRule.{FailRule}
 use Rattle.pc_batch_writer.specs.declared.fault.WriteFault.{WriteFault}
 use Rattle.pc_batch_writer.specs.declared.generator.Drawn.{Drawn}
@@ -52,6 +54,18 @@ log_from part i waiting (x ∷ xs) =
 -- the log of a part
 abbrev pub generated_log : ℕ → ℕ → ℕ → List ℕ
 generated_log seed n part = log_from part 0 [] (numbers_from n seed)
+
+-- the records of a part, of the numbers from place i on
+unfoldable pub records_from : ℕ → ℕ → List ℕ → List Record
+records_from part i [] = []
+records_from part i (x ∷ xs) = if i % 8 == part then record_of (i / 8) x ∷ records_from part (i + 1) xs else records_from part (i + 1) xs
+
+-- the bytes are batches, one after the other, which give these records
+pub record AreBatches (bytes : List ℕ) (rs : List Record) : Type 0 where
+  pub parts : List (List ℕ × Contents)
+  pub each : AllByRecursion (λ (p : List ℕ × Contents). IsBatch p.0 p.1) parts
+  pub text : bytes ≡ flat_map (λ (p : List ℕ × Contents). p.0) parts
+  pub gives : rs ≡ flat_map (λ (p : List ℕ × Contents). given_by p.1) parts
 
 -- the fail rules of the records from place i on
 unfoldable pub fails_from : ℕ → List ℕ → List FailRule

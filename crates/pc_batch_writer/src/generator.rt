@@ -1,7 +1,7 @@
 //! The logs of a run over made-up records, and the records that fail in it.
 
-ghost use Rattle.std.specs.Prelude.{◌≡◌, ◌+◌, ◌<◌, ◌++◌, ◌∷◌, ℕ, List, [], Some, decimal, map, vec_len, string_bytes, slice_get, option_map, IfOk, OnOk};
-ghost use Rattle.pc_batch_writer.specs.Generator.{next_number, numbers_from, record_of, batch_text, generated_log, log_from, fails_from, plain_drawn};
+ghost use Rattle.std.specs.Prelude.{◌≡◌, ◌+◌, ◌<◌, ◌++◌, ◌∷◌, ℕ, List, [], Some, decimal, map, vec_len, string_bytes, slice_get, option_map, IfOk, IfSome, OnOk};
+ghost use Rattle.pc_batch_writer.specs.Generator.{next_number, numbers_from, record_of, records_from, AreBatches, batch_text, generated_log, log_from, fails_from, plain_drawn};
 ghost use Rattle.pc_batch_writer.specs.Writing.{plain_new};
 
 use crate::new_record::NewRecord;
@@ -20,6 +20,18 @@ const FACTOR: u64 = 6_364_136_223_846_793_005;
 
 /// What the generator adds.
 const STEP: u64 = 1_442_695_040_888_963_407;
+
+/// Keys have numbers below this.
+const KEYS: u64 = 1_000;
+
+/// Values are shorter than this.
+const LENGTHS: u64 = 64;
+
+/// A value is one of so many letters, from `a` on.
+const LETTERS: u64 = 26;
+
+/// One record of so many fails.
+const FAILS_ONE_OF: u64 = 50;
 
 /// Made-up logs, and the records that fail.
 #[derive(Debug, Drop)]
@@ -44,6 +56,10 @@ pub fn generate(alloc: Global, seed: u64, records: u32) -> Result<Generated, All
     ensures logs { IfOk result (λ made. (part : ℕ) → part < 8
         → option_map (λ log. log.items) (slice_get made.logs.items part)
         ≡ Some (generated_log seed records part)) }
+    // A log is batches, one after the other, which give the records of its part.
+    ensures reads { IfOk result (λ made. (part : ℕ) → part < 8
+        → IfSome (slice_get made.logs.items part)
+        (λ log. AreBatches log.items (records_from part 0 (numbers_from records seed)))) }
     ensures fails { IfOk result (λ made. made.fails ≡ fails_from 0 (numbers_from records seed)) }
 {
     let mut logs = Vec::with_capacity(alloc, PARTS as usize)?;
@@ -155,11 +171,11 @@ fn lend<'a>(alloc: Global, waiting: &'a [Drawn]) -> Result<Vec<NewRecord<'a>>, A
 fn draw(alloc: Global, number: u64, offset: u32) -> Result<Drawn, AllocError>
     ensures { IfOk result (λ drawn. plain_drawn drawn ≡ record_of offset number) }
 {
-    let letter = 97 + (number / (1 << 40) % 26) as u8;
-    let len = (number / (1 << 20) % 64) as usize;
+    let letter = b'a' + (number / (1 << 40) % LETTERS) as u8;
+    let len = (number / (1 << 20) % LENGTHS) as usize;
     Ok(Drawn {
         offset: u64::from(offset),
-        key: key(alloc, number / (1 << 33) % 1000)?,
+        key: key(alloc, number / (1 << 33) % KEYS)?,
         value: Vec::from_elem(alloc, letter, len)?,
     })
 }
@@ -196,7 +212,7 @@ fn put_fail(fails: &mut Vec<FailRule>, i: u32, number: u64) -> Result<(), AllocE
     ensures { OnOk result ((others : List ℕ) → fails.old.items ++ fails_from i (number ∷ others)
         ≡ fails.new.items ++ fails_from (i + 1) others) }
 {
-    if number / (1 << 50) % 50 != 0 {
+    if number / (1 << 50) % FAILS_ONE_OF != 0 {
         return Ok(());
     }
     let rule = FailRule {

@@ -1,5 +1,5 @@
 -- A number of another part, or of this one.
-use Rattle.std.proofs.Common.{ap, ◌++◌, refl, rules}
+use Rattle.std.proofs.Common.{ap, ◌++◌, rules}
 use Rattle.pc_batch_writer.proofs.GeneratorLemmas.{log-other, put-either}
 use Rattle.pc_batch_writer.proofs.generator.put_number.Goals as goal
 
