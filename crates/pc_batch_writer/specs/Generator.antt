@@ -12,7 +12,7 @@ use Rattle.pc_batch_writer.specs.Writing.{written_of}
 abbrev pub next_number : ℕ → ℕ
 next_number x = (x * 6364136223846793005 + 1442695040888963407) % 2 ^ 64
 
--- so many numbers after a seed
+-- the n numbers after a seed
 abbrev pub numbers_from : ℕ → ℕ → List ℕ
 numbers_from zero x = []
 numbers_from (suc n) x = next_number x ∷ numbers_from n (next_number x)

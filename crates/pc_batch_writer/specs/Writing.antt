@@ -27,7 +27,7 @@ plain_new r = record { offset = r.offset; time = r.time; key = option_copied r.k
 
 -- ---- a record
 
--- a length, and so many bytes
+-- a length and the bytes
 abbrev pub sized_spelling : List ℕ → List ℕ
 sized_spelling part = shortest_of (pos (length part)) ++ part
 
@@ -42,7 +42,7 @@ header_spelling h = sized_spelling h.0 ++ nullable_spelling h.1
 abbrev pub headers_spelling : List (List ℕ × Option (List ℕ)) → List ℕ
 headers_spelling headers = flat_map header_spelling headers
 
--- a count, and so many headers
+-- a count and the headers
 abbrev pub counted_spelling : List (List ℕ × Option (List ℕ)) → List ℕ
 counted_spelling headers = shortest_of (pos (length headers)) ++ headers_spelling headers
 

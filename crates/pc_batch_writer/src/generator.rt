@@ -27,10 +27,10 @@ const KEYS: u64 = 1_000;
 /// Values are shorter than this.
 const LENGTHS: u64 = 64;
 
-/// A value is one of so many letters, from `a` on.
+/// How many letters a value is chosen from, from `a` on.
 const LETTERS: u64 = 26;
 
-/// One record of so many fails.
+/// One record of this many fails.
 const FAILS_ONE_OF: u64 = 50;
 
 /// Made-up logs, and the records that fail.
@@ -49,7 +49,7 @@ pub(crate) struct Drawn {
     pub value: Vec<u8>,
 }
 
-/// The logs of 8 parts with so many records in all, drawn from the seed: record i goes to part
+/// The logs of 8 parts with `records` records in all, drawn from the seed: record i goes to part
 /// i mod 8. The only error is out of memory.
 pub fn generate(alloc: Global, seed: u64, records: u32) -> Result<Generated, AllocError>
     ensures parts { IfOk result (λ made. vec_len made.logs ≡ 8) }
@@ -135,7 +135,7 @@ fn put_record(
     Ok(())
 }
 
-/// Puts the batch of the records; nothing where there is none.
+/// Puts the batch of the records. Without records it puts nothing.
 fn put_batch(alloc: Global, log: &mut Vec<u8>, waiting: &[Drawn]) -> Result<(), AllocError>
     ensures { OnOk result (log.new.items
         ≡ log.old.items ++ batch_text (map plain_drawn waiting.now)) }

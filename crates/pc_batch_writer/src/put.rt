@@ -28,7 +28,7 @@ fn put_len(out: &mut Vec<u8>, len: usize) -> Result<(), WriteFault>
     Ok(())
 }
 
-/// Puts a length, and so many bytes.
+/// Puts a length and the bytes.
 fn put_sized(out: &mut Vec<u8>, part: &[u8]) -> Result<(), WriteFault>
     ensures { Puts (length (sized_spelling part.now)) (sized_spelling part.now) out.old.items
         out.new.items result }
@@ -38,7 +38,7 @@ fn put_sized(out: &mut Vec<u8>, part: &[u8]) -> Result<(), WriteFault>
     Ok(())
 }
 
-/// Puts a length and so many bytes, or the length -1 for null.
+/// Puts a length and the bytes, or the length -1 for null.
 fn put_nullable(out: &mut Vec<u8>, part: Option<&[u8]>) -> Result<(), WriteFault>
     ensures { let text = nullable_spelling (option_copied part.entry) in
         Puts (length text) text out.old.items out.new.items result }

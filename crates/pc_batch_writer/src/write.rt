@@ -24,13 +24,16 @@ const BEFORE_COVERED: usize = 9;
 const MAGIC: u8 = 2;
 
 /// Writes one batch: the base offset and the base time are those of the first record. The leader epoch
-/// and all attributes are 0, the producer's fields -1. Every number has its shortest spelling.
+/// and all attributes are 0, the producer's fields -1. Every number has its shortest spelling. Fails
+/// with the first fault that applies, in the order of `WriteFault`.
 pub fn write_batch(alloc: Global, records: &[NewRecord<'_>]) -> Result<Vec<u8>, WriteFault>
     // What is written is a batch of these records.
-    ensures batch { IfOk result (λ bytes. IsBatch bytes.items (contents_of (map plain_new records.now))) }
+    ensures batch { IfOk result (λ bytes.
+        IsBatch bytes.items (contents_of (map plain_new records.now))) }
 
     // Each byte of it, and which fault it is.
-    ensures written { IfOk result (λ bytes. written_of (map plain_new records.now) ≡ Ok bytes.items) }
+    ensures written { IfOk result (λ bytes.
+        written_of (map plain_new records.now) ≡ Ok bytes.items) }
     ensures fault { IfErr result (λ fault. (fault ≡ NoMemory)
         ⊎ (written_of (map plain_new records.now) ≡ Err fault)) }
 {

@@ -54,8 +54,8 @@ impl<T: Drop> Mailbox<T> {
         Ok((mailbox, ends, Inbox { pass }))
     }
 
-    /// Puts a result behind those that the sender put before. Where memory runs out the result comes
-    /// back, and all is as before. It may wait for another thread that puts or takes.
+    /// Puts a result at the end of what the sender put. Out of memory it returns the result, and
+    /// nothing changes. It may wait for another thread that puts or takes.
     pub fn put<R: Wait>(&self, rt: &R, sender: &mut Sender<T>, done: T) -> Result<(), T>
         requires own { sender.old.mailbox ≡ self.now }
         requires few { length sender.old.put < 2 ^ 40 }
@@ -78,8 +78,8 @@ impl<T: Drop> Mailbox<T> {
         }
     }
 
-    /// Takes the result that some sender put after those that were taken of it. None comes where no
-    /// result was found, and counts as a miss. Takes no memory. It may wait for another thread that
+    /// Takes the next result of one of the senders: the one that it put after those that were taken of
+    /// it. Returns None where no result was found, and counts a miss. Takes no memory. It may wait for another thread that
     /// puts.
     pub fn take<R: Wait>(&self, rt: &R, inbox: &mut Inbox<T>) -> Option<T>
         requires { inbox.old.mailbox ≡ self.now }
