@@ -1,0 +1,5 @@
+pub mod ConfigLemmas
+pub mod DefaultLemmas
+pub mod ListLemmas
+pub mod MemberLemmas
+pub mod RangeLemmas
