@@ -1,7 +1,9 @@
 -- What stands at a key: a number, a word or a list.
 use Rattle.std.specs.Prelude.{ℕ, ℤ, pos, negsuc, Bool, not, ◌&&◌, nat_le, List, [], ◌∷◌, ◌++◌, codes, Option, Some, None, option_map, Result, Ok, Err, if◌then◌else◌}
-use Rattle.std.specs.List.{find, list_any}
+use Rattle.std.specs.Cmp.Lexicographic.{slice_cmp}
+use Rattle.std.specs.List.{filter, list_any, reduce}
 use Rattle.std.specs.Option.{ok_or}
+use Rattle.std.specs.Ordering.{is_lt, nat_cmp}
 use Rattle.std.specs.Str.{bytes_eq}
 use Rattle.pc_model.specs.declared.choices.Order.{Order}
 use Rattle.pc_model.specs.declared.choices.Order.TheVariants as order
@@ -63,7 +65,7 @@ items_in d = option_map list_of (as_array d)
 abbrev pub list_at : Key → Members → Option (Option (List Data))
 list_at k ms = option_map items_in (member_of k ms)
 
--- the words of the keys that a table has, in the order of their bytes
+-- the words of the keys that a table has
 abbrev pub words_in : Members → List (List ℕ)
 words_in no_members = []
 words_in (member word d ms) = word ∷ words_in ms
@@ -72,9 +74,13 @@ words_in (member word d ms) = word ∷ words_in ms
 abbrev pub is_key : Place → List ℕ → Bool
 is_key place word = list_any (λ k. bytes_eq (word_of k) word) (keys_at place)
 
--- the first key that the table may not have
+-- the lesser of two texts by their bytes
+abbrev pub lesser : List ℕ → List ℕ → List ℕ
+lesser a b = if is_lt (slice_cmp nat_cmp a b) then a else b
+
+-- the least key by its bytes that the table may not have
 abbrev pub unknown_in : Place → Members → Option (List ℕ)
-unknown_in place ms = find (λ word. not (is_key place word)) (words_in ms)
+unknown_in place ms = reduce lesser (filter (λ word. not (is_key place word)) (words_in ms))
 
 abbrev pub no_unknown : Place → Option (List ℕ) → Result (Unit {0}) ConfigFault
 no_unknown place None = Ok tt

@@ -3,6 +3,8 @@
 ghost use Rattle.std.specs.Prelude.{◌≡◌, Ok, Err, IfOk, IfErr, not, option_copied, option_map, string_bytes};
 ghost use Rattle.std.specs.BTreeMap.{keys};
 ghost use Rattle.std.specs.List.{find};
+ghost use Rattle.std.specs.List.Sorted.{IsStrictlySortedBy};
+ghost use Rattle.std.specs.String.{string_cmp};
 ghost use Rattle.toml.specs.View.{table_view};
 ghost use Rattle.pc_config.specs.declared.fault.ConfigFault.TheVariants.{NoMemory};
 ghost use Rattle.pc_config.specs.Members.{is_key, unknown_in, known_keys};
@@ -25,7 +27,7 @@ pub(crate) fn check_keys(alloc: Global, place: Place, table: &Table) -> Result<(
     }
 }
 
-/// The first key that the table may not have, in the order of the keys' bytes.
+/// The least key by its bytes that the table may not have.
 fn unknown_word<'a>(place: Place, table: &'a Table) -> Option<&'a str>
     ensures { option_map (λ s. s.now) result ≡ unknown_in place (table_view table.now) }
 {
@@ -35,9 +37,11 @@ fn unknown_word<'a>(place: Place, table: &'a Table) -> Option<&'a str>
     }
 }
 
+/// The first such key of the map, whose keys ascend.
 fn first_unknown<'a>(place: Place, table: &'a Table) -> Option<&'a String>
-    ensures { option_copied result
+    ensures first { option_copied result
         ≡ find (λ word. not (is_key place (string_bytes word))) (keys table.now) }
+    ensures ascend { IsStrictlySortedBy string_cmp (keys table.now) }
 {
     table.keys().find(|word| !is_key(place, word.as_str()))
 }
