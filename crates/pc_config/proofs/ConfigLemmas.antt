@@ -1,28 +1,19 @@
 -- The configuration of a text, and the ranges of its values.
-use Rattle.std.proofs.Common.{◌≡◌, ℕ, ◌+◌, ◌<◌, ◌≤◌, ◌^◌, ◌-◌, Bool, true, false, cond, leb, le-leb, List, [], ◌∷◌, ◌++◌, length, Option, Some, None, Result, Ok, Err, IfOk, IsUtf8, refl, sym, ap, subst, ◌∙◌, inl, inr, arith, rules}
-use Rattle.std.specs.Prelude.{◌&&◌, nat_le}
-use Rattle.std.specs.List.{AllByRecursion}
+use Rattle.std.proofs.Common.{◌≡◌, ℕ, ◌≤◌, Bool, true, false, cond, le-leb, List, Option, Some, None, Result, Ok, Err, IfOk, IsUtf8, refl, ap, subst, arith}
 use Rattle.std.specs.Str.{is_utf8}
-use Rattle.std.proofs.lemmas.Bool.{cases_Bool, and_parts, leb-true}
 use Rattle.std.proofs.lemmas.Str.{IsUtf8-from_is_utf8, is_utf8-from_IsUtf8}
-use Rattle.toml.specs.Data.{Data, Members}
+use Rattle.toml.specs.Data.{Members}
 use Rattle.toml.specs.Parse.{parse_document}
 use Rattle.pc_model.specs.declared.setup.SetupField.{SetupField}
-use Rattle.pc_model.specs.declared.setup.SetupFault.{SetupFault}
 use Rattle.pc_model.specs.declared.outcome.FailRule.{FailRule}
 use Rattle.pc_model.specs.declared.outcome.Start.{Start}
-use Rattle.pc_model.specs.Numbers.{first_some}
-use Rattle.pc_model.specs.Ranges.{range_fault, delay_fault, delays_fault, rule_fault, rules_fault, start_fault, starts_fault, twice_fault, settings_fault}
-use Rattle.pc_config.specs.declared.config.Config.{Config}
+use Rattle.pc_model.specs.Ranges.{range_fault, delays_fault, rules_fault, starts_fault, settings_fault}
 use Rattle.pc_config.specs.declared.scalars.FrontKeys.{FrontKeys}
 use Rattle.pc_config.specs.declared.scalars.BackKeys.{BackKeys}
-use Rattle.pc_config.specs.declared.key.Key.{Key}
-use Rattle.pc_config.specs.declared.fault.ConfigFault.{ConfigFault}
 use Rattle.pc_config.specs.declared.fault.ConfigFault.TheVariants.{NotToml}
 use Rattle.pc_config.specs.declared.fault.KeyFault.{KeyFault}
-use Rattle.pc_config.specs.Keys.{least_of, most_of}
 use Rattle.pc_config.specs.Faults.{public}
-use Rattle.pc_config.specs.Config.{Configured, IsFront, IsBack, config_of, configured_of, or_not_toml, settings_from}
+use Rattle.pc_config.specs.Config.{IsFront, IsBack, config_of, configured_of, or_not_toml, settings_from}
 
 text_of : List ℕ → Bool → Option Members
 text_of bytes utf8 = cond utf8 (parse_document bytes) None
@@ -55,9 +46,20 @@ ok_public P (Err fault) x e h = absurd cc
 pub settings_fault-in : (front : FrontKeys) (delays : List ℕ) (back : BackKeys) (fails : List FailRule) (starts : List Start) → IsFront front → IsBack back → delays_fault delays ≡ None → rules_fault fails ≡ None → starts_fault starts ≡ None → settings_fault (settings_from front delays back fails starts) ≡ None
 unfolding settings_fault
 settings_fault-in front delays back fails starts f b d r s =
-    rw (le-leb 0 front.map_limit (omega arith), le-leb front.map_limit 4096 f.map_limit_most, le-leb 1 front.press_percent f.press_percent_least, le-leb front.press_percent 100 f.press_percent_most,
-        le-leb 1 back.give_up b.give_up_least, le-leb back.give_up 1000000 b.give_up_most,
-        le-leb 1 back.buffer b.buffer_least, le-leb back.buffer 1000000 b.buffer_most,
-        le-leb 1 back.poll_max b.poll_max_least, le-leb back.poll_max 1000000 b.poll_max_most,
-        le-leb 1 back.commit_every b.commit_every_least, le-leb back.commit_every 1000000 b.commit_every_most,
-        d, r, s) refl
+    rw (
+      le-leb 0 front.map_limit (omega arith),
+      le-leb front.map_limit 4096 f.map_limit_most,
+      le-leb 1 front.press_percent f.press_percent_least,
+      le-leb front.press_percent 100 f.press_percent_most,
+      le-leb 1 back.give_up b.give_up_least,
+      le-leb back.give_up 1000000 b.give_up_most,
+      le-leb 1 back.buffer b.buffer_least,
+      le-leb back.buffer 1000000 b.buffer_most,
+      le-leb 1 back.poll_max b.poll_max_least,
+      le-leb back.poll_max 1000000 b.poll_max_most,
+      le-leb 1 back.commit_every b.commit_every_least,
+      le-leb back.commit_every 1000000 b.commit_every_most,
+      d,
+      r,
+      s,
+    ) refl

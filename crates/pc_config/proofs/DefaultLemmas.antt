@@ -1,11 +1,10 @@
 -- The configuration of the empty text.
-use Rattle.std.proofs.Common.{◌≡◌, [], Ok, Some, Result, refl, ◌∙◌}
+use Rattle.std.proofs.Common.{◌≡◌, [], Ok, Some, refl, ◌∙◌}
 use Rattle.toml.specs.Data.{no_members}
 use Rattle.toml.specs.Parse.{parse_document}
 use Rattle.toml.proofs.OnLiterals.{toml_on_literals}
 use Rattle.pc_model.specs.Defaults.{default_settings}
-use Rattle.pc_config.specs.declared.fault.ConfigFault.{ConfigFault}
-use Rattle.pc_config.specs.Config.{Configured, config_of, configured_of, front_of, back_of}
+use Rattle.pc_config.specs.Config.{config_of, configured_of, front_of, back_of}
 use Rattle.pc_config.specs.Lists.{delays_of, fails_of, starts_of}
 use Rattle.pc_config.specs.Members.{member_of, known_keys}
 use Rattle.pc_config.proofs.ConfigLemmas.{config_of-read}

@@ -1,24 +1,23 @@
 -- The lists that were read are in their ranges.
-use Rattle.std.proofs.Common.{◌≡◌, ℕ, ℤ, ◌+◌, ◌<◌, ◌≤◌, ◌^◌, ◌-◌, Bool, true, false, cond, leb, le-leb, zero, suc, List, [], ◌∷◌, ◌++◌, length, length-append, append-nil, append_assoc, Option, Some, None, Result, Ok, Err, IfOk, refl, sym, ap, subst, ◌∙◌, inl, inr, arith, rules}
-use Rattle.std.specs.Prelude.{◌&&◌, ◌==◌, nat_le, pos, negsuc}
-use Rattle.std.specs.List.{AllByRecursion, list_all, list_any}
+use Rattle.std.proofs.Common.{◌≡◌, ℕ, ℤ, ◌+◌, ◌≤◌, ◌^◌, ◌-◌, Bool, true, false, cond, leb, List, [], ◌∷◌, ◌++◌, length, length-append, append-nil, append_assoc, Option, Some, None, Result, Ok, Err, refl, sym, ap, subst, ◌∙◌, arith}
+use Rattle.std.specs.Prelude.{◌&&◌, ◌==◌, pos, negsuc}
+use Rattle.std.specs.List.{list_all, list_any}
 use Rattle.std.specs.Option.{option_or}
-use Rattle.std.proofs.lemmas.Bool.{cases_Bool, and_parts, leb-true}
+use Rattle.std.proofs.lemmas.Bool.{and_parts, leb-true}
 use Rattle.toml.specs.Data.{Data, Members, as_integer, as_table}
-use Rattle.pc_model.specs.declared.setup.SetupField.{SetupField}
 use Rattle.pc_model.specs.declared.setup.SetupField.TheVariants as field
 use Rattle.pc_model.specs.declared.setup.SetupFault.{SetupFault}
 use Rattle.pc_model.specs.declared.setup.SetupFault.TheVariants.{PartTwice}
 use Rattle.pc_model.specs.declared.outcome.FailRule.{FailRule}
 use Rattle.pc_model.specs.declared.outcome.Start.{Start}
 use Rattle.pc_model.specs.Numbers.{first_some}
-use Rattle.pc_model.specs.Ranges.{range_fault, delay_fault, delays_fault, rule_fault, rules_fault, start_fault, starts_fault, twice_fault}
+use Rattle.pc_model.specs.Ranges.{delay_fault, delays_fault, rule_fault, rules_fault, start_fault, starts_fault, twice_fault}
 use Rattle.pc_config.specs.declared.key.Key.{Key}
 use Rattle.pc_config.specs.declared.key.Key.TheVariants as key
 use Rattle.pc_config.specs.declared.place.Place.TheVariants as place
 use Rattle.pc_config.specs.declared.fault.ConfigFault.{ConfigFault}
 use Rattle.pc_config.specs.declared.fault.KeyFault.{KeyFault}
-use Rattle.pc_config.specs.declared.fault.KeyFault.TheVariants.{Bad, Beyond, Missing}
+use Rattle.pc_config.specs.declared.fault.KeyFault.TheVariants.{Bad, Beyond}
 use Rattle.pc_config.specs.Keys.{least_of, most_of}
 use Rattle.pc_config.specs.Faults.{◌>>=◌, public}
 use Rattle.pc_config.specs.Members.{number_in, number_of, number_needed, integer_at, text_at, list_at, known_keys}

@@ -1,5 +1,5 @@
 -- The lists of a configuration, item by item.
-use Rattle.std.specs.Prelude.{ℕ, Bool, ◌&&◌, ◌==◌, nat_le, List, [], ◌∷◌, ◌++◌, length, Option, Some, None, is_some, option_map, Result, Ok, Err, if◌then◌else◌}
+use Rattle.std.specs.Prelude.{ℕ, Bool, ◌&&◌, ◌==◌, nat_le, List, [], ◌∷◌, ◌++◌, length, Option, Some, None, is_some, Result, Ok, Err, if◌then◌else◌}
 use Rattle.std.specs.List.{list_all, list_any}
 use Rattle.toml.specs.Data.{Data, Members, as_integer, as_table}
 use Rattle.pc_model.specs.declared.outcome.FailRule.{FailRule}
@@ -9,7 +9,7 @@ use Rattle.pc_config.specs.declared.key.Key.TheVariants as key
 use Rattle.pc_config.specs.declared.place.Place.TheVariants as place
 use Rattle.pc_config.specs.declared.fault.ConfigFault.{ConfigFault}
 use Rattle.pc_config.specs.declared.fault.KeyFault.{KeyFault}
-use Rattle.pc_config.specs.declared.fault.KeyFault.TheVariants.{Missing, Bad, Beyond}
+use Rattle.pc_config.specs.declared.fault.KeyFault.TheVariants.{Bad, Beyond}
 use Rattle.pc_config.specs.Keys.{least_of, most_of}
 use Rattle.pc_config.specs.Faults.{◌>>=◌, fault_of, public}
 use Rattle.pc_config.specs.Members.{integer_at, text_at, list_at, number_of, number_needed, known_keys}

@@ -62,7 +62,7 @@ fn of_table(alloc: Global, table: &Table) -> Result<Config, ConfigFault>
 #[tactic(auto, unfolding(crate::specs::Config::configured_of))]
 fn settings(alloc: Global, table: &Table) -> Result<(Settings, u32), ConfigFault>
     ensures ok { IfOk result (λ p. configured_of (table_view table.now)
-        ≡ Ok (record { settings = p.0; workers = p.1; })) }
+        ≡ Ok (record { settings = p.0; workers = p.1 })) }
     ensures fault { IfErr result
         (λ f. ¬ (f ≡ NoMemory) → configured_of (table_view table.now) ≡ Err f) }
     ensures in_range { IfOk result (λ p. settings_fault p.0 ≡ None) }
@@ -97,7 +97,7 @@ fn settings(alloc: Global, table: &Table) -> Result<(Settings, u32), ConfigFault
 /// The configuration of values that are all in range.
 fn in_range(settings: Settings, workers: u32) -> Config
     requires { settings_fault settings ≡ None }
-    ensures { configured result ≡ record { settings = settings; workers = workers; } }
+    ensures { configured result ≡ record { settings = settings; workers = workers } }
 {
     match Setup::new(settings) {
         Ok(setup) => Config { setup, workers },

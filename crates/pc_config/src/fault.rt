@@ -26,11 +26,7 @@ pub enum ConfigFault {
     BadValue(KeyText),
     /// A number, the length of a list or the bytes of a text lie outside the range, whose ends are
     /// both allowed.
-    OutOfRange {
-        key: KeyText,
-        least: u64,
-        most: u64,
-    },
+    OutOfRange { key: KeyText, least: u64, most: u64 },
     /// Out of memory.
     NoMemory,
 }

@@ -41,7 +41,9 @@ pub(crate) struct Row {
 }
 
 const LAST_PART: u64 = 1_023;
+
 const MOST_TIMES: u64 = 1_000_000;
+
 const LAST_POSITION: u64 = (1 << 63) - 1;
 
 impl Key {

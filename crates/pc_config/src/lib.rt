@@ -16,3 +16,6 @@ mod words;
 
 pub use config::{Config, default_config, read_config};
 pub use fault::ConfigFault;
+
+#[cfg(test)]
+mod tests;

@@ -1,8 +1,7 @@
 -- The keys of the map are the words of the table.
-use Rattle.std.proofs.Common.{◌≡◌, Some, None, List, ℕ, map, not, option_map, string_bytes, rules}
-use Rattle.pc_config.specs.Members.{is_key, unknown_in}
+use Rattle.std.proofs.Common.{Some, None, not}
+use Rattle.pc_config.specs.Members.{is_key}
 use Rattle.pc_config.proofs.MemberLemmas.{least-view}
-use Rattle.toml.specs.View.{table_view}
 use Rattle.pc_config.proofs.unknown.unknown_word.Goals as goal
 
 pub returns-in-Some : goal.returns-in-Some
