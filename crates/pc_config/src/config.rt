@@ -2,6 +2,7 @@
 
 ghost use Rattle.std.specs.Prelude.{◌≡◌, ◌≤◌, [], Ok, Err, None, IfOk, IfErr};
 ghost use Rattle.toml.specs.View.{table_view};
+ghost use Rattle.pc_model.specs.Defaults.{default_settings, settings_of};
 ghost use Rattle.pc_model.specs.Ranges.{settings_fault};
 ghost use Rattle.pc_config.specs.declared.fault.ConfigFault.TheVariants.{NoMemory};
 ghost use Rattle.pc_config.specs.Config.{config_of, configured, configured_of, settings_from, IsFront};
@@ -10,7 +11,7 @@ use crate::delays::delays;
 use crate::fails::fails;
 use crate::fault::{ConfigFault, or_fault};
 use crate::place::Place;
-use crate::scalars::{back, front};
+use crate::scalars::{DEFAULT_WORKERS, back, front};
 use crate::starts::starts;
 use crate::unknown::check_keys;
 use pc_model::{Rules, Settings, Setup};
@@ -29,6 +30,11 @@ pub struct Config {
 /// its bytes; then key by key, in the order of `order`, `function`, `workers`, `map_limit`,
 /// `press_percent`, `delays`, `give_up`, `buffer`, `poll_max`, `commit_every`, `bad_map`, `fail`,
 /// `start`.
+///
+/// For one key `BadValue` stands before `OutOfRange`. In a list an item of another type stands
+/// before the length, and the length before what is wrong inside an item. In a table of `fail` or
+/// `start` its least unknown key comes first, then each key: `MissingKey`, `BadValue`,
+/// `OutOfRange`. A part that an earlier table of `start` has is `BadValue` of `start.part`.
 #[tactic(auto, unfolding(crate::specs::Config::config_of))]
 pub fn read_config(alloc: Global, bytes: &[u8]) -> Result<Config, ConfigFault>
     ensures ok { IfOk result (λ c. config_of bytes.now ≡ Ok (configured c)) }
@@ -107,10 +113,12 @@ fn in_range(settings: Settings, workers: u32) -> Config
 
 /// The configuration of the empty text. The only error is out of memory.
 pub fn default_config(alloc: Global) -> Result<Config, AllocError>
-    ensures { IfOk result (λ c. config_of [] ≡ Ok (configured c)) }
+    ensures empty { IfOk result (λ c. config_of [] ≡ Ok (configured c)) }
+    ensures settings { IfOk result (λ c. settings_of c.setup ≡ default_settings) }
+    ensures workers { IfOk result (λ c. c.workers ≡ 16) }
 {
     Ok(Config {
         setup: Setup::with_defaults(alloc)?,
-        workers: 16,
+        workers: DEFAULT_WORKERS as u32,
     })
 }

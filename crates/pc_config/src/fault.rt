@@ -15,9 +15,9 @@ use std::fmt;
 /// table, as `fail.part`.
 #[derive(Debug, Drop)]
 pub enum ConfigFault {
-    /// The bytes are no TOML document; bytes that are no UTF-8 are none.
+    /// The bytes are not a TOML document, or not UTF-8.
     NotToml,
-    /// The document, or a table of `fail` or `start`, has this key, which is none of its keys.
+    /// The document, or a table of `fail` or `start`, has this key, which is not one of its keys.
     UnknownKey(KeyText),
     /// A table of `fail` or `start` lacks this key.
     MissingKey(KeyText),

@@ -11,6 +11,21 @@ use crate::words::{bad_map, order, work};
 use pc_model::{BadMapRule, Order, Work};
 use toml::Table;
 
+/// What holds where a key is absent.
+pub(crate) const DEFAULT_WORKERS: u64 = 16;
+
+const DEFAULT_MAP_LIMIT: u64 = 4_096;
+
+const DEFAULT_PRESS_PERCENT: u64 = 75;
+
+const DEFAULT_GIVE_UP: u64 = 10;
+
+const DEFAULT_BUFFER: u64 = 5_000;
+
+const DEFAULT_POLL_MAX: u64 = 500;
+
+const DEFAULT_COMMIT_EVERY: u64 = 1_000;
+
 /// The keys before the delays.
 #[derive(Clone, Copy, Debug)]
 pub(crate) struct FrontKeys {
@@ -38,9 +53,9 @@ pub(crate) fn front(table: &Table) -> Result<FrontKeys, KeyFault>
 {
     let order = order(table)?;
     let work = work(table)?;
-    let workers = number_or_default(table, Key::Workers, 16)? as u32;
-    let map_limit = number_or_default(table, Key::MapLimit, 4_096)? as u32;
-    let press_percent = number_or_default(table, Key::PressPercent, 75)? as u32;
+    let workers = number_or_default(table, Key::Workers, DEFAULT_WORKERS)? as u32;
+    let map_limit = number_or_default(table, Key::MapLimit, DEFAULT_MAP_LIMIT)? as u32;
+    let press_percent = number_or_default(table, Key::PressPercent, DEFAULT_PRESS_PERCENT)? as u32;
     Ok(FrontKeys {
         order,
         work,
@@ -55,10 +70,10 @@ pub(crate) fn back(table: &Table) -> Result<BackKeys, KeyFault>
     ensures read { result ≡ back_of (table_view table.now) }
     ensures in_range { IfOk result (λ b. IsBack b) }
 {
-    let give_up = number_or_default(table, Key::GiveUp, 10)? as u32;
-    let buffer = number_or_default(table, Key::Buffer, 5_000)? as u32;
-    let poll_max = number_or_default(table, Key::PollMax, 500)? as u32;
-    let commit_every = number_or_default(table, Key::CommitEvery, 1_000)? as u32;
+    let give_up = number_or_default(table, Key::GiveUp, DEFAULT_GIVE_UP)? as u32;
+    let buffer = number_or_default(table, Key::Buffer, DEFAULT_BUFFER)? as u32;
+    let poll_max = number_or_default(table, Key::PollMax, DEFAULT_POLL_MAX)? as u32;
+    let commit_every = number_or_default(table, Key::CommitEvery, DEFAULT_COMMIT_EVERY)? as u32;
     let bad_map = bad_map(table)?;
     Ok(BackKeys {
         give_up,

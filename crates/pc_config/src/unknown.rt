@@ -14,7 +14,7 @@ use crate::place::Place;
 use std::alloc::Global;
 use toml::Table;
 
-/// Refuses a table with a key that is none of its place's.
+/// Refuses a table with a key that its place does not have, and names the least by its bytes.
 #[tactic(auto, unfolding(crate::specs::Members::known_keys))]
 pub(crate) fn check_keys(alloc: Global, place: Place, table: &Table) -> Result<(), ConfigFault>
     ensures ok { IfOk result (λ x. known_keys place (table_view table.now) ≡ Ok x) }
