@@ -9,7 +9,7 @@ use Rattle.pc_model.specs.declared.event.Event.{Event}
 use Rattle.pc_model.specs.Record.{Record}
 use Rattle.pc_model.specs.declared.setup.Settings.{Settings}
 use Rattle.pc_model.specs.declared.setup.Setup.{Setup}
-use Rattle.pc_model.specs.Defaults.{default_settings, settings_of}
+use Rattle.pc_model.specs.Defaults.{default_settings}
 use Rattle.pc_model.specs.Given.{Given, has_log}
 use Rattle.pc_model.specs.Ranges.{settings_fault}
 use Rattle.pc_model.specs.Lawful.{IsLegal}
@@ -279,20 +279,7 @@ stops-at-once told given lines m m' h none same = record {
 -- ---- the setup
 
 setup_with : (v : Settings) → IsTrue (is_none (settings_fault v)) → Setup
-setup_with v in_range = record {
-  order = v.order;
-  rules = v.rules;
-  map_limit = v.map_limit;
-  press_percent = v.press_percent;
-  delays = v.delays;
-  give_up = v.give_up;
-  buffer = v.buffer;
-  poll_max = v.poll_max;
-  commit_every = v.commit_every;
-  bad_map = v.bad_map;
-  starts = v.starts;
-  in_range = in_range;
-}
+setup_with v in_range = record { settings = v; in_range = in_range }
 
 same-setup : (v w : Settings) → v ≡ w → (a : IsTrue (is_none (settings_fault v)))
     → (b : IsTrue (is_none (settings_fault w))) → setup_with v a ≡ setup_with w b
@@ -302,10 +289,10 @@ same-setup v w same a =
     → setup_with v a ≡ setup_with x b) same
     (λ b. ap (setup_with v) (Bool-set (is_none (settings_fault v)) true a b))
 
--- a setup has no more than its values
-pub default-is : (s : Setup) → settings_of s ≡ default_settings → s ≡ default_setup
+-- a setup has no more than its settings
+pub default-is : (s : Setup) → s.settings ≡ default_settings → s ≡ default_setup
 unfolding setup_with
-default-is s values = same-setup (settings_of s) default_settings values s.in_range default_in_range
+default-is s same = same-setup s.settings default_settings same s.in_range default_in_range
 
 -- ---- before any line
 

@@ -9,7 +9,8 @@ use Rattle.std.proofs.lemmas.Bool.Decides.{Decides-int_eq}
 use Rattle.std.proofs.lemmas.Slice.Eq.{bytes_eq-Decides}
 use Rattle.pc_model.specs.declared.commit.Commit.{Commit as StoredCommit}
 use Rattle.pc_model.specs.declared.event.Event.{Event}
-use Rattle.pc_model.specs.declared.api.TheConstants.{METADATA_MAX, NO_ERROR, OFFSET_METADATA_TOO_LARGE, UNKNOWN_TOPIC_OR_PARTITION}
+use Rattle.pc_model.specs.declared.api.TheConstants.{NO_ERROR, OFFSET_METADATA_TOO_LARGE, UNKNOWN_TOPIC_OR_PARTITION}
+use Rattle.pc_model.specs.declared.limits.TheConstants.{MAX_METADATA_BYTES}
 use Rattle.pc_model.specs.Record.{Record}
 use Rattle.pc_model.specs.Broker.{Broker, Membership, has_part, membership_refusal, place_code}
 use Rattle.pc_model.specs.Given.{Given, no_commit}
@@ -96,21 +97,21 @@ served b p serves =
 pub served-fetch : (b : Broker) (p : ℕ) → Serves b p → fetched_from b p ≡ Ok (kept_for b p)
 served-fetch b p serves = cond-true (has_part b TOPIC (pos p)) _ _ (served b p serves)
 
-not-too-long : (n : ℕ) → n ≤ METADATA_MAX → nat_lt METADATA_MAX n ≡ false
-not-too-long n short = elim (cases_Bool (nat_lt METADATA_MAX n)) [
-  | inl long ↦ let more = ltb-true METADATA_MAX n long in absurd (omega (arith, short, more))
+not-too-long : (n : ℕ) → n ≤ MAX_METADATA_BYTES → nat_lt MAX_METADATA_BYTES n ≡ false
+not-too-long n short = elim (cases_Bool (nat_lt MAX_METADATA_BYTES n)) [
+  | inl long ↦ let more = ltb-true MAX_METADATA_BYTES n long in absurd (omega (arith, short, more))
   | inr fits ↦ fits
 ]
 
 pub served-commit : (b : Broker) (p : ℕ) (c : StoredCommit) → Serves b p
-    → length c.map ≤ METADATA_MAX
+    → length c.map ≤ MAX_METADATA_BYTES
     → (stored_by b p c ≡ Ok no_commit) × (store_with b p c ≡ with_commit b p c)
 served-commit b p c serves short =
     let code : commit_code b p c ≡ NO_ERROR =
     ap (λ (m : Option Membership). unwrap_or (membership_refusal m [] (negsuc 0))
     (place_code b TOPIC (item_of p c))) serves.members
     ∙ ap (λ (x : Bool). if not x then UNKNOWN_TOPIC_OR_PARTITION
-    else if nat_lt METADATA_MAX (length c.map) then OFFSET_METADATA_TOO_LARGE else NO_ERROR)
+    else if nat_lt MAX_METADATA_BYTES (length c.map) then OFFSET_METADATA_TOO_LARGE else NO_ERROR)
     (served b p serves)
     ∙ ap (λ (x : Bool). if x then OFFSET_METADATA_TOO_LARGE else NO_ERROR)
     (not-too-long (length c.map) short) in

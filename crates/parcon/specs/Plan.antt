@@ -1,5 +1,6 @@
 -- What is played: the logs of a play's files, and the lines of its script.
 use Rattle.std.specs.Prelude.{ℕ, ◌≡◌, ◌<◌, ◌≤◌, ◌+◌, ◌++◌, length, Bool, true, false, not, nat_lt, List, [], ◌∷◌, map, find, Option, Some, None, option_map, Result, Ok, Err, if◌then◌else◌}
+use Rattle.pc_model.specs.declared.limits.TheConstants.{MAX_RECORDS, MAX_SCRIPT_LINES}
 use Rattle.pc_model.specs.Record.{Record}
 use Rattle.pc_script.specs.declared.play.PlayAct.{PlayAct}
 use Rattle.pc_script.specs.declared.play.PlayAct.TheVariants.{Assign, Commit, Poll, Take, End, Revoke, Lose, Crash}
@@ -54,20 +55,20 @@ checked_logs (text ∷ texts) =
 -- the logs, unless they have more than 1,000,000 records together
 abbrev pub few_records : List (Option (List Record))
     → Result (List (Option (List Record))) Status
-few_records logs = if nat_lt 1_000_000 (record_total logs)
-    then Err (status.Limit Records 1_000_000) else Ok logs
+few_records logs = if nat_lt MAX_RECORDS (record_total logs)
+    then Err (status.Limit Records MAX_RECORDS) else Ok logs
 
 -- the logs with one more, which together have at most 1,000,000 records
 pub record AddsLog (before : List (Option (List Record))) (log : List Record)
     (after : List (Option (List Record))) : Type 0 where
   pub appended : after ≡ before ++ Some log ∷ []
-  pub few : record_total before + length log ≤ 1_000_000
+  pub few : record_total before + length log ≤ MAX_RECORDS
 
 -- with one log more they have too many, which this status says
 pub record IsOverfull (before : List (Option (List Record))) (log : List Record) (s : Status)
     : Type 0 where
-  pub many : 1_000_000 < record_total before + length log
-  pub says : s ≡ status.Limit Records 1_000_000
+  pub many : MAX_RECORDS < record_total before + length log
+  pub says : s ≡ status.Limit Records MAX_RECORDS
 
 -- ---- lines
 
@@ -90,7 +91,7 @@ first_unbuilt lines = option_map (λ l. l.line) (find (λ l. not (is_built l.act
 -- the status of a script that does not read
 abbrev pub script_status : ScriptReadFault → Status
 script_status (Bad fault) = status.BadScript fault.line fault.kind
-script_status TooManyLines = status.Limit ScriptLines 1_000_000
+script_status TooManyLines = status.Limit ScriptLines MAX_SCRIPT_LINES
 script_status NoMemory = status.NoMemory
 
 -- the lines of a script, unless it does not read

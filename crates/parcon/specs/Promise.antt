@@ -30,20 +30,7 @@ default_in_range = refl
 
 -- the setup of the values that hold where nothing else is said
 abbrev pub default_setup : Setup
-default_setup = record {
-  order = default_settings.order;
-  rules = default_settings.rules;
-  map_limit = default_settings.map_limit;
-  press_percent = default_settings.press_percent;
-  delays = default_settings.delays;
-  give_up = default_settings.give_up;
-  buffer = default_settings.buffer;
-  poll_max = default_settings.poll_max;
-  commit_every = default_settings.commit_every;
-  bad_map = default_settings.bad_map;
-  starts = default_settings.starts;
-  in_range = default_in_range;
-}
+default_setup = record { settings = default_settings; in_range = default_in_range }
 
 -- what a play over these logs is given where nothing else is said: that setup, and for its start
 -- what the link's broker stores

@@ -1,6 +1,7 @@
 -- What the reads of a play's files answered, and the bytes that they gave.
 use Rattle.std.specs.Prelude.{ℕ, ◌≡◌, ◌≤◌, ◌<◌, ◌+◌, nat_lt, List, [], ◌∷◌, length, map, ok_or, Option, Some, Result, Ok, Err, if◌then◌else◌}
 use Rattle.std.specs.List.{AllByRecursion}
+use Rattle.pc_model.specs.declared.limits.TheConstants.{MAX_FILE_BYTES, MAX_LOG_BYTES}
 use Rattle.pc_world.specs.World.{HasRisen}
 use Rattle.parcon.specs.declared.reading.LogText.{LogText}
 use Rattle.parcon.specs.declared.reading.Texts.{Texts}
@@ -19,13 +20,13 @@ pub data ReadAnswer : Type 0 where
 
 -- an answer that may come of a file with these contents, as far as they are told, where the count
 -- of its own faults went from the one number to the other: bytes are those that are told, a failure
--- was counted, and a file that is too long has more than 268,435,456 bytes
+-- was counted, and a file that is too long has more bytes than a file may have
 abbrev pub IsAnswer : Option (List ℕ) → ℕ → ℕ → ReadAnswer → Type 0
 IsAnswer told before after (Bytes bytes) =
-    (length bytes ≤ 268_435_456) × ((contents : List ℕ) → told ≡ Some contents → bytes ≡ contents)
+    (length bytes ≤ MAX_FILE_BYTES) × ((contents : List ℕ) → told ≡ Some contents → bytes ≡ contents)
 IsAnswer told before after Failed = HasRisen before after
 IsAnswer told before after TooLong = (contents : List ℕ) → told ≡ Some contents
-    → 268_435_456 < length contents
+    → MAX_FILE_BYTES < length contents
 
 -- the name of a log's file, and what its read answered
 pub record FileRead : Type 0 where
@@ -78,12 +79,12 @@ abbrev pub ◌>>=◌ : {X Y : Type 0} → Result X Status → (X → Result Y St
 abbrev pub answered : List ℕ → ReadAnswer → Result (List ℕ) Status
 answered name (Bytes bytes) = Ok bytes
 answered name Failed = Err (status.ReadFault name)
-answered name TooLong = Err (status.Limit FileBytes 268_435_456)
+answered name TooLong = Err (status.Limit FileBytes MAX_FILE_BYTES)
 
--- bytes behind so many others, unless they are more than 268,435,456 together
+-- bytes behind so many others, unless they are more together than all logs may have
 abbrev pub within : ℕ → List ℕ → Result (List ℕ) Status
-within before bytes = if nat_lt 268_435_456 (before + length bytes)
-    then Err (status.Limit LogBytes 268_435_456) else Ok bytes
+within before bytes = if nat_lt MAX_LOG_BYTES (before + length bytes)
+    then Err (status.Limit LogBytes MAX_LOG_BYTES) else Ok bytes
 
 -- the bytes of a log behind others that have so many, or the status that its read ends with
 abbrev pub log_answered : ℕ → FileRead → Result FileText Status

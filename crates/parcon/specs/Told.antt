@@ -3,6 +3,7 @@
 use Rattle.std.specs.Prelude.{ℕ, ◌≡◌, ◌<◌, ◌+◌, ◌&&◌, Bool, true, false, List, [], ◌∷◌, map, Option, Some, None, Result, Ok, Err, if◌then◌else◌, is_none, nat_lt, length, pos}
 use Rattle.std.specs.List.{AllByRecursion}
 use Rattle.std.specs.Ordering.{int_eq}
+use Rattle.pc_model.specs.declared.limits.TheConstants.{MAX_FILE_BYTES}
 use Rattle.pc_model.specs.declared.commit.Commit.{Commit as StoredCommit}
 use Rattle.pc_model.specs.declared.event.Event.{Event}
 use Rattle.pc_model.specs.declared.api.TheConstants.{NO_ERROR, UNKNOWN_TOPIC_OR_PARTITION}
@@ -33,7 +34,7 @@ use Rattle.parcon.specs.Promise.{FilesSeen, Outside, given_of}
 abbrev pub told_answer : Option (List ℕ) → ReadAnswer
 told_answer None = Bytes []
 told_answer (Some contents) =
-    if nat_lt 268_435_456 (length contents) then TooLong else Bytes contents
+    if nat_lt MAX_FILE_BYTES (length contents) then TooLong else Bytes contents
 
 -- what the reads of the files answer that the words name
 abbrev pub told_reads : List (List ℕ) → (List ℕ → Option (List ℕ)) → Reads

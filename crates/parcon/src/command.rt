@@ -4,8 +4,10 @@ ghost use Rattle.std.specs.Prelude.{◌≡◌, ◌<◌, ◌≤◌, ◌-◌, IfSo
 ghost use Rattle.std.specs.List.{list_all};
 ghost use Rattle.parcon.specs.Command.{command_of, is_file, is_play, play_files};
 
+use pc_model::limits::MAX_PARTS;
+
 /// The most files that a play may name: 1,024 logs and a script.
-const FILES_MAX: usize = 1_025;
+const MAX_FILES: usize = MAX_PARTS as usize + 1;
 
 /// The names of a play's files.
 #[derive(Clone, Copy, Debug)]
@@ -21,7 +23,7 @@ pub(crate) fn command<'a>(words: &'a [String]) -> Option<PlayFiles<'a>>
       logs = map string_bytes files.logs.now;
       script = files.script.now;
     }) result ≡ command_of (map string_bytes words.now) }
-    ensures few { IfSome result (λ files. length files.logs.now ≤ 1_024) }
+    ensures few { IfSome result (λ files. length files.logs.now ≤ MAX_PARTS) }
 {
     let (command, names) = words.split_first()?;
     if is_play(command.as_str(), names) {
@@ -35,7 +37,7 @@ pub(crate) fn command<'a>(words: &'a [String]) -> Option<PlayFiles<'a>>
 fn is_play(command: &str, names: &[String]) -> bool
     ensures { result ≡ is_play command.now (map string_bytes names.now) }
 {
-    command == "play" && 2 <= names.len() && names.len() <= FILES_MAX && are_files(names)
+    command == "play" && 2 <= names.len() && names.len() <= MAX_FILES && are_files(names)
 }
 
 /// Whether each of the words may name a file.

@@ -2,7 +2,7 @@
 
 ghost use Rattle.std.specs.Prelude.{◌≡◌, ◌⊎◌, ◌+◌, ◌≤◌, ◌^◌, ◌-◌, ℕ, Bool, List, Ok, length, true};
 ghost use Rattle.pc_model.specs.declared.event.Event.{Event};
-ghost use Rattle.pc_model.specs.declared.api.TheConstants.{METADATA_MAX};
+ghost use Rattle.pc_model.specs.declared.limits.TheConstants.{MAX_METADATA_BYTES};
 ghost use Rattle.pc_model.specs.declared.commit.Commit.{Commit as StoredCommit};
 ghost use Rattle.pc_model.specs.Broker.{Broker};
 ghost use Rattle.pc_model.specs.Given.{Given, no_commit};
@@ -32,7 +32,7 @@ pub fn a_play_is_complete()
 pub fn a_good_broker_refuses_nothing()
     ensures fetch { (b : Broker) (p : ℕ) → Serves b p → fetched_from b p ≡ Ok (kept_for b p) }
     ensures commit { (b : Broker) (p : ℕ) (c : StoredCommit) → Serves b p
-        → length c.map ≤ METADATA_MAX
+        → length c.map ≤ MAX_METADATA_BYTES
         → (stored_by b p c ≡ Ok no_commit) × (store_with b p c ≡ with_commit b p c) }
 {}
 

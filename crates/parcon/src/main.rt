@@ -19,6 +19,7 @@ mod remark;
 mod status;
 
 use offline::offline;
+use pc_model::limits::MAX_PARTS;
 use pc_offset_client::TOPIC;
 use pc_offset_store::OffsetBroker;
 use pc_world::{DiskFiles, StdSink};
@@ -27,9 +28,6 @@ use std::alloc::AllocError;
 use std::env;
 use std::io::ErrorKind;
 use std::process::ExitCode;
-
-/// How many parts the topic of the program's broker has.
-const PARTS: u32 = 1_024;
 
 #[cfg(test)]
 mod setup_tests;
@@ -47,7 +45,7 @@ fn main(rt: HostRuntime) -> ExitCode {
 /// link in memory, and answers the number of its status.
 fn run(rt: &HostRuntime) -> Result<u8, AllocError> {
     let words = words(rt)?;
-    let link = OffsetBroker::new(rt.alloc(), TOPIC, PARTS)?;
+    let link = OffsetBroker::new(rt.alloc(), TOPIC, MAX_PARTS)?;
     let mut files = DiskFiles::new(rt.alloc(), rt);
     let mut out = StdSink::new(rt);
     let ended = offline(rt.alloc(), &words, &mut files, link, &mut out);

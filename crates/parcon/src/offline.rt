@@ -8,6 +8,7 @@ ghost use Rattle.parcon.specs.Promise.{IsCall, Plays, given_of};
 use crate::plan::plan_of;
 use crate::play_setup::{Ended, play_setup, unplayed};
 use crate::reading::{Texts, read_files};
+use pc_model::limits::MAX_PARTS;
 use pc_world::{Files, Link, Sink};
 use std::alloc::Global;
 
@@ -50,7 +51,7 @@ pub fn offline<F: Files, L: Link, O: Sink>(
 
 /// Plays the script of these texts over their logs.
 fn play_texts<L: Link, O: Sink>(alloc: Global, texts: &Texts<'_>, link: L, out: &mut O) -> Ended<L>
-    requires { length texts.now.logs.items ≤ 1_024 }
+    requires { length texts.now.logs.items ≤ MAX_PARTS }
     ensures { Plays (given_of (logs_of (map text_of texts.now.logs.items)) (L.is_told link)
         (L.store link)) (lines_behind (texts_of texts.now))
         (record {

@@ -12,12 +12,10 @@ use crate::reading::{LogText, Texts};
 use crate::status::{LimitKind, Status};
 use pc_broker_log::{AddFault, BrokerLogs};
 use pc_cursor::{CheckFault, Log};
+use pc_model::limits::{MAX_PARTS, MAX_RECORDS};
 use pc_model::{NameText, Setup};
 use pc_script::{PlayAct, PlayLine, PlayScript, read_play};
 use std::alloc::Global;
-
-/// The most records that all logs may have together.
-const RECORDS_MAX: u64 = 1_000_000;
 
 /// What is played: a script over logs, with a setup.
 #[derive(Debug, Drop)]
@@ -31,7 +29,7 @@ pub(crate) struct Plan<'a> {
 /// or the status that ends the play before it begins: of the logs in order, of the number of their
 /// records, of the script, the first that applies.
 pub(crate) fn plan_of<'a>(alloc: Global, texts: &'a Texts<'_>) -> Result<Plan<'a>, Status>
-    requires { length texts.now.logs.items ≤ 1_024 }
+    requires { length texts.now.logs.items ≤ MAX_PARTS }
     ensures lines { (result ≡ Err NoMemory)
         ⊎ (result_map_both (λ plan. plan.script) (λ s. s) result
         ≡ lines_behind (texts_of texts.now)) }
@@ -51,10 +49,10 @@ pub(crate) fn plan_of<'a>(alloc: Global, texts: &'a Texts<'_>) -> Result<Plan<'a
 
 /// The logs of the texts, which have to read.
 fn checked_logs<'a>(alloc: Global, texts: &'a [LogText<'_>]) -> Result<Vec<Log<'a>>, Status>
-    requires { length texts.now ≤ 1_024 }
+    requires { length texts.now ≤ MAX_PARTS }
     ensures value { (result ≡ Err NoMemory) ⊎ (result_map_both (λ logs. logs.items) (λ s. s) result
         ≡ checked_logs (map text_of texts.now)) }
-    ensures count { IfOk result (λ logs. length logs.items ≤ 1_024) }
+    ensures count { IfOk result (λ logs. length logs.items ≤ MAX_PARTS) }
 {
     let mut logs = Vec::new(alloc);
     for text in texts {
@@ -81,7 +79,7 @@ fn checked<'a>(alloc: Global, name: &str, log: &'a [u8]) -> Result<Log<'a>, Stat
 
 /// The logs by their parts, unless they have too many records together.
 fn broker_logs<'a>(alloc: Global, checked: Vec<Log<'a>>) -> Result<BrokerLogs<'a>, Status>
-    requires { length checked.items ≤ 1_024 }
+    requires { length checked.items ≤ MAX_PARTS }
     ensures { (result ≡ Err NoMemory) ⊎ (result ≡ few_records (logs_with checked.entry.items)) }
 {
     let mut logs = BrokerLogs::new(alloc);
@@ -96,7 +94,7 @@ fn broker_logs<'a>(alloc: Global, checked: Vec<Log<'a>>) -> Result<BrokerLogs<'a
 /// Gives the next part its log, unless all logs have too many records together with it.
 fn add_next<'a>(logs: &mut BrokerLogs<'a>, part: u32, log: Log<'a>) -> Result<(), Status>
     requires next { part ≡ length logs.now }
-    requires known { part < 1_024 }
+    requires known { part < MAX_PARTS }
     ensures ok { OnOk result
         (AddsLog logs.old (records_of (contents_of log.entry)) logs.new) }
     ensures err { IfErr result (λ status. (status ≡ NoMemory)
@@ -106,7 +104,7 @@ fn add_next<'a>(logs: &mut BrokerLogs<'a>, part: u32, log: Log<'a>) -> Result<()
         Ok(()) => Ok(()),
         Err(AddFault::TooManyRecords) => Err(Status::Limit {
             which: LimitKind::Records,
-            number: RECORDS_MAX,
+            number: u64::from(MAX_RECORDS),
         }),
         Err(AddFault::NoMemory) => Err(Status::NoMemory),
         Err(AddFault::UnknownPart | AddFault::TwiceGiven) => unreachable!(),

@@ -154,8 +154,8 @@ pub(crate) fn play<L: Link>(
     lines: &[PlayLine],
     link: L,
 ) -> Played<L>
-    requires order { setup.now.order ≡ NoOrder }
-    requires fails { setup.now.rules.fails ≡ [] }
+    requires order { setup.now.settings.order ≡ NoOrder }
+    requires fails { setup.now.settings.rules.fails ≡ [] }
     requires playable { ArePlayable lines.now }
     ensures kept { let given = given_by setup.now logs.now [] (L.is_told link) (kept_for (L.store link)) in
         IsKept given (L.store link) (L.store result.link) result.journal.events }

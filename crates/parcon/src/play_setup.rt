@@ -40,8 +40,8 @@ pub fn play_setup<L: Link, O: Sink>(
     link: L,
     out: &mut O,
 ) -> Ended<L>
-    requires order { setup.now.order ≡ NoOrder }
-    requires fails { setup.now.rules.fails ≡ [] }
+    requires order { setup.now.settings.order ≡ NoOrder }
+    requires fails { setup.now.settings.rules.fails ≡ [] }
     ensures { Plays
         (given_by setup.now logs.now [] (L.is_told link) (kept_for (L.store link))) (Ok script.now)
         (record {

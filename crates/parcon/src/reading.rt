@@ -8,11 +8,9 @@ ghost use Rattle.parcon.specs.declared.status.Status.TheVariants.{NoMemory};
 use crate::command::command;
 use crate::status::{LimitKind, Status};
 use pc_model::NameText;
-use pc_world::{FILE_BYTES_MAX, Files, FilesFault};
+use pc_model::limits::{MAX_FILE_BYTES, MAX_LOG_BYTES, MAX_PARTS};
+use pc_world::{Files, FilesFault};
 use std::alloc::Global;
-
-/// The most bytes that all logs may have together.
-const LOG_BYTES_MAX: u64 = 268_435_456;
 
 /// The bytes of a log's file, and its name.
 #[derive(Debug, Drop)]
@@ -39,7 +37,7 @@ pub(crate) fn read_files<'a, F: Files>(
     ensures texts { (result ≡ Err NoMemory) ⊎ IsFromFiles (map string_bytes words.now)
         (F.told files.old) (F.faults files.old) (F.faults files.new)
         (result_map_both texts_of (λ s. s) result) }
-    ensures few { IfOk result (λ texts. length texts.logs.items ≤ 1_024) }
+    ensures few { IfOk result (λ texts. length texts.logs.items ≤ MAX_PARTS) }
 {
     let Some(names) = command(words) else {
         return Err(Status::Usage);
@@ -79,11 +77,11 @@ fn read_log<'a, F: Files>(
     name: &'a str,
     used: u64,
 ) -> Result<LogText<'a>, Status>
-    requires { used ≤ LOG_BYTES_MAX }
+    requires { used ≤ MAX_LOG_BYTES }
     ensures text { (result ≡ Err NoMemory) ⊎ IsFromLog name.now (F.told files.old name.now)
         (F.faults files.old name.now) (F.faults files.new name.now) used
         (result_map_both text_of (λ s. s) result) }
-    ensures fits { IfOk result (λ log. used + length log.bytes.items ≤ LOG_BYTES_MAX) }
+    ensures fits { IfOk result (λ log. used + length log.bytes.items ≤ MAX_LOG_BYTES) }
     ensures keeps { (n : List ℕ) → F.told files.new n ≡ F.told files.old n }
     ensures count { (n : List ℕ) → F.faults files.old n ≤ F.faults files.new n }
 {
@@ -94,16 +92,16 @@ fn read_log<'a, F: Files>(
 
 /// The bytes behind so many others, unless they are too many together.
 fn within(used: u64, bytes: Vec<u8>) -> Result<Vec<u8>, Status>
-    requires { used ≤ LOG_BYTES_MAX }
+    requires { used ≤ MAX_LOG_BYTES }
     ensures value { result_map_both (λ b. b.items) (λ s. s) result ≡ within used bytes.items }
-    ensures fits { IfOk result (λ b. used + length b.items ≤ LOG_BYTES_MAX) }
+    ensures fits { IfOk result (λ b. used + length b.items ≤ MAX_LOG_BYTES) }
 {
-    if bytes.len() as u64 <= LOG_BYTES_MAX - used {
+    if bytes.len() as u64 <= MAX_LOG_BYTES - used {
         Ok(bytes)
     } else {
         Err(Status::Limit {
             which: LimitKind::LogBytes,
-            number: LOG_BYTES_MAX,
+            number: MAX_LOG_BYTES,
         })
     }
 }
@@ -124,7 +122,7 @@ fn read<F: Files>(alloc: Global, files: &mut F, name: &str) -> Result<Vec<u8>, S
         }),
         Err(FilesFault::TooLong) => Err(Status::Limit {
             which: LimitKind::FileBytes,
-            number: FILE_BYTES_MAX,
+            number: MAX_FILE_BYTES,
         }),
         Err(FilesFault::NoMemory) => Err(Status::NoMemory),
     }

@@ -20,8 +20,8 @@ use std::test::Fail;
 /// The usual setup, but for this limit of a map's characters, and the rule for a stored map that does
 /// not read.
 fn setup_with(alloc: Global, map_limit: u32, bad_map: BadMapRule) -> Result<Setup, Fail>
-    ensures order { IfOk result (λ setup. setup.order ≡ NoOrder) }
-    ensures fails { IfOk result (λ setup. setup.rules.fails ≡ []) }
+    ensures order { IfOk result (λ setup. setup.settings.order ≡ NoOrder) }
+    ensures fails { IfOk result (λ setup. setup.settings.rules.fails ≡ []) }
 {
     let settings = Settings {
         order: Order::None,

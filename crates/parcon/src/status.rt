@@ -4,6 +4,7 @@ ghost use Rattle.std.specs.Prelude.{◌≡◌};
 
 use pc_cursor::LogFaultKind;
 use pc_model::NameText;
+use pc_model::limits::MAX_SCRIPT_LINES;
 use pc_script::{ScriptKind, ScriptReadFault};
 use std::alloc::{AllocError, AllocFailed};
 
@@ -115,7 +116,7 @@ impl From<ScriptReadFault> for Status {
             },
             ScriptReadFault::TooManyLines => Status::Limit {
                 which: LimitKind::ScriptLines,
-                number: 1_000_000,
+                number: MAX_SCRIPT_LINES as u64,
             },
             ScriptReadFault::NoMemory => Status::NoMemory,
         }

@@ -6,7 +6,7 @@ use Rattle.pc_assignment.specs.declared.epochs.PartEpoch.{PartEpoch}
 use Rattle.pc_assignment.specs.Epochs.{AreEpochs, AreSmall}
 
 -- an event that begins or ends no epoch leaves them those of the history
-pub AreEpochs-stay : (v : Event) (h : List Event) (epochs : List PartEpoch) → ((p : ℕ) → moves v p ≡ false)
+AreEpochs-stay : (v : Event) (h : List Event) (epochs : List PartEpoch) → ((p : ℕ) → moves v p ≡ false)
     → AreEpochs h epochs → AreEpochs (v ∷ h) epochs
 AreEpochs-stay v h epochs still are = record {
   each = λ p d below. rw still (are.each p d below);

@@ -18,7 +18,7 @@ done x = Ok x
 pub ok_is : {A : Type 0} (x y : A) → done x ≡ done y → x ≡ y
 ok_is x y e = cc
 
-pub or_kind-ok : {A : Type 0} (kind : RecordKind) (r : Result A Gap) (x : A) → or_kind kind r ≡ Ok x → r ≡ Ok x
+or_kind-ok : {A : Type 0} (kind : RecordKind) (r : Result A Gap) (x : A) → or_kind kind r ≡ Ok x → r ≡ Ok x
 or_kind-ok kind (Ok y) x e = ap (λ z. Ok z) (ok_is y x e)
 or_kind-ok kind (Err g) x e = absurd cc
 
@@ -42,7 +42,7 @@ pub long-again : (text rest : List ℕ) (n : ℤ) → IsVarlong text n → long_
 long-again text rest n is = ap (or_kind Varint) (varlong_at-again text rest n is)
 
 -- a number takes a byte at least
-pub int-shorter : (bytes : List ℕ) (x : ℤ × List ℕ) → int_at bytes ≡ Ok x → length x.1 < length bytes
+int-shorter : (bytes : List ℕ) (x : ℤ × List ℕ) → int_at bytes ≡ Ok x → length x.1 < length bytes
 int-shorter bytes x e =
     let read = int-takes bytes x e in
     let some = IsGroups-some read.text read.spelled.groups in

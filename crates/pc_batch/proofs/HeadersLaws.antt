@@ -15,7 +15,7 @@ use Rattle.pc_batch.proofs.FieldLaws.{ok_is, sized-takes, sized-again, nullable-
 abbrev Header : Type 0
 Header = List ℕ × Option (List ℕ)
 
-pub header-takes : (bytes : List ℕ) (x : Header × List ℕ) → header_at bytes ≡ Ok x → SpelledBefore IsHeader bytes x.0 x.1
+header-takes : (bytes : List ℕ) (x : Header × List ℕ) → header_at bytes ≡ Ok x → SpelledBefore IsHeader bytes x.0 x.1
 unfolding header_at
 header-takes bytes x e =
     let a = bind_ok (sized_at HeaderKeyLength Past bytes) _ x e in
@@ -29,7 +29,7 @@ header-takes bytes x e =
     } in
     subst (λ (y : Header × List ℕ). SpelledBefore IsHeader bytes y.0 y.1) (ok_is ((a.0.0, b.0.0), b.0.1) x b.2) made
 
-pub header-again : (text rest : List ℕ) (h : Header) → IsHeader text h → header_at (text ++ rest) ≡ Ok (h, rest)
+header-again : (text rest : List ℕ) (h : Header) → IsHeader text h → header_at (text ++ rest) ≡ Ok (h, rest)
 unfolding header_at
 header-again text rest h is =
     let whole : text ++ rest ≡ is.key ++ (is.value ++ rest) = ap (λ (l : List ℕ). l ++ rest) is.parts ∙ append_assoc is.key is.value rest in
@@ -42,7 +42,7 @@ pub record TakesHeaders (n : ℕ) (bytes : List ℕ) (hs : List Header) (rest : 
   pub parts : bytes ≡ text ++ rest
   pub count : length hs ≡ n
 
-pub headers-takes : (n : ℕ) (bytes : List ℕ) (x : List Header × List ℕ) → headers_at n bytes ≡ Ok x → TakesHeaders n bytes x.0 x.1
+headers-takes : (n : ℕ) (bytes : List ℕ) (x : List Header × List ℕ) → headers_at n bytes ≡ Ok x → TakesHeaders n bytes x.0 x.1
 unfolding headers_at
 headers-takes zero bytes x e =
     let made : TakesHeaders 0 bytes [] bytes = record { text = []; spelled = refl; parts = refl; count = refl } in
@@ -60,7 +60,7 @@ headers-takes (suc n) bytes x e =
     } in
     subst (λ (y : List Header × List ℕ). TakesHeaders (suc n) bytes y.0 y.1) (ok_is (a.0.0 ∷ b.0.0, b.0.1) x b.2) made
 
-pub headers-again : (hs : List Header) (text rest : List ℕ) → AreHeaders text hs → headers_at (length hs) (text ++ rest) ≡ Ok (hs, rest)
+headers-again : (hs : List Header) (text rest : List ℕ) → AreHeaders text hs → headers_at (length hs) (text ++ rest) ≡ Ok (hs, rest)
 unfolding headers_at
 headers-again [] text rest is = ap (λ (l : List ℕ). Ok ([], l ++ rest)) is
 headers-again (h ∷ hs) text rest is =

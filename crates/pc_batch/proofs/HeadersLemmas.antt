@@ -54,7 +54,7 @@ skipped_all count i bytes total le so_far =
     none bytes = unfold after_headers headers_at in refl
 
 -- headers that are passed over are those that the iterator gives
-pub headers_at-front : (n : ℕ) (bytes rest : List ℕ) → after_headers n bytes ≡ Ok rest → headers_at n bytes ≡ Ok (front_headers n bytes, rest)
+headers_at-front : (n : ℕ) (bytes rest : List ℕ) → after_headers n bytes ≡ Ok rest → headers_at n bytes ≡ Ok (front_headers n bytes, rest)
 unfolding after_headers headers_at front_headers
 headers_at-front zero bytes rest h = ok_same bytes rest h
   where

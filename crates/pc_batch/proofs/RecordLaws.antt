@@ -81,7 +81,7 @@ offset-again frame least moved offset is above within =
 joined : (bytes a b c d e : List ℕ) (x : ℕ) (s t u v w y : List ℕ) → bytes ≡ x ∷ a → a ≡ s ++ b → b ≡ t ++ c → c ≡ u ++ d → d ≡ v ++ e → e ≡ w ++ y → bytes ≡ x ∷ (s ++ (t ++ (u ++ (v ++ (w ++ y)))))
 joined bytes a b c d e x s t u v w y ia ib ic id ie iy = rw (ia, ib, ic, id, ie, iy) refl
 
-pub body-takes : (frame : Frame) (least : ℕ) (bytes : List ℕ) (r : Record) → body_at frame least bytes ≡ Ok r → IsBody frame least bytes r
+body-takes : (frame : Frame) (least : ℕ) (bytes : List ℕ) (r : Record) → body_at frame least bytes ≡ Ok r → IsBody frame least bytes r
 unfolding body_at
 body-takes frame least bytes r e =
     let attributes = bind_ok (byte_at bytes) _ r e in
@@ -123,7 +123,7 @@ body-takes frame least bytes r e =
     } in
     subst (IsBody frame least bytes) (ok_is (record { offset = offset.0; time = time.0; key = key.0.0; value = value.0.0; headers = headers.0 }) r headers.2) made
 
-pub body-again : (frame : Frame) (least : ℕ) (bytes : List ℕ) (r : Record) → IsBody frame least bytes r → body_at frame least bytes ≡ Ok r
+body-again : (frame : Frame) (least : ℕ) (bytes : List ℕ) (r : Record) → IsBody frame least bytes r → body_at frame least bytes ≡ Ok r
 unfolding body_at
 body-again frame least bytes r is =
     ap (body_at frame least) is.parts
@@ -141,7 +141,7 @@ body-again frame least bytes r is =
 
 -- ---- one record, and all of them
 
-pub record-takes : (frame : Frame) (least : ℕ) (bytes : List ℕ) (x : Record × List ℕ) → record_at frame least bytes ≡ Ok x → SpelledBefore (IsRecord frame least) bytes x.0 x.1
+record-takes : (frame : Frame) (least : ℕ) (bytes : List ℕ) (x : Record × List ℕ) → record_at frame least bytes ≡ Ok x → SpelledBefore (IsRecord frame least) bytes x.0 x.1
 unfolding record_at
 record-takes frame least bytes x e =
     let part = bind_ok (sized_at Length Length bytes) _ x e in
@@ -154,7 +154,7 @@ record-takes frame least bytes x e =
     } in
     subst (λ (y : Record × List ℕ). SpelledBefore (IsRecord frame least) bytes y.0 y.1) (ok_is (found.0, part.0.1) x found.2) made
 
-pub record-again : (frame : Frame) (least : ℕ) (text rest : List ℕ) (r : Record) → IsRecord frame least text r → record_at frame least (text ++ rest) ≡ Ok (r, rest)
+record-again : (frame : Frame) (least : ℕ) (text rest : List ℕ) (r : Record) → IsRecord frame least text r → record_at frame least (text ++ rest) ≡ Ok (r, rest)
 unfolding record_at
 record-again frame least text rest r is =
     rw (sized-again Length Length text is.body rest is.sized, body-again frame least is.body r is.fields) refl

@@ -68,7 +68,7 @@ pub record Fits (base last : ℕ) (first : ℤ) (least : ℕ) (r : Record) : Typ
   pub near : IsTrue (fits_64 (r.time -ℤ first))
   pub time : FitsSigned w64 r.time
 
-abbrev pub frame_with : ℕ → ℕ → ℤ → Frame
+abbrev frame_with : ℕ → ℕ → ℤ → Frame
 frame_with base last first = record { base = base; last = last; times = times.Each first }
 
 body-is : (base last : ℕ) (first : ℤ) (least : ℕ) (r : Record) → base ≤ least → last - base < 2 ^ 31 → Fits base last first least r → length (body_spelling base first r) < 2 ^ 31 → IsBody (frame_with base last first) least (body_spelling base first r) r

@@ -10,11 +10,11 @@ use Rattle.pc_batch_writer.specs.declared.generator.Drawn.{Drawn}
 use Rattle.pc_batch_writer.specs.Generator.{next_number, numbers_from, record_of, fails_by, batch_text, log_from, fails_from, plain_drawn}
 
 -- the numbers to come are the next one and those after it
-pub numbers-more : (n i x : ℕ) → i < n → numbers_from (n - i) x ≡ next_number x ∷ numbers_from (n - (i + 1)) (next_number x)
+numbers-more : (n i x : ℕ) → i < n → numbers_from (n - i) x ≡ next_number x ∷ numbers_from (n - (i + 1)) (next_number x)
 numbers-more n i x lt = let e : n - i ≡ suc (n - (i + 1)) = omega arith in ap (λ k. numbers_from k x) e
 
 -- no numbers are left
-pub numbers-none : (n i x : ℕ) → n ≤ i → numbers_from (n - i) x ≡ []
+numbers-none : (n i x : ℕ) → n ≤ i → numbers_from (n - i) x ≡ []
 numbers-none n i x le = let e : n - i ≡ 0 = omega arith in ap (λ k. numbers_from k x) e
 
 pub log-other : (part i : ℕ) (waiting : List Record) (x : ℕ) (xs : List ℕ) → i % 8 ≢ part → log_from part i waiting (x ∷ xs) ≡ log_from part (i + 1) waiting xs
@@ -34,7 +34,7 @@ unfolding log_from
 log-ends part i waiting = refl
 
 -- a batch is full
-pub put-full : (part i number : ℕ) (others old new : List ℕ) (waiting after : List Drawn) (drawn : Drawn) → i % 8 ≡ part → length waiting ≡ 99 → plain_drawn drawn ≡ record_of (i / 8) number
+put-full : (part i number : ℕ) (others old new : List ℕ) (waiting after : List Drawn) (drawn : Drawn) → i % 8 ≡ part → length waiting ≡ 99 → plain_drawn drawn ≡ record_of (i / 8) number
     → after ≡ [] → new ≡ old ++ batch_text (map plain_drawn waiting ++ plain_drawn drawn ∷ [])
     → old ++ log_from part i (map plain_drawn waiting) (number ∷ others) ≡ new ++ log_from part (i + 1) (map plain_drawn after) others
 put-full part i number others old new waiting after drawn own full is none e =
@@ -45,7 +45,7 @@ put-full part i number others old new waiting after drawn own full is none e =
     ∙ ap (λ (l : List Drawn). new ++ log_from part (i + 1) (map plain_drawn l) others) (sym none)
 
 -- one more record waits
-pub put-waits : (part i number : ℕ) (others old new : List ℕ) (waiting after : List Drawn) (drawn : Drawn) → i % 8 ≡ part → length waiting < 99 → plain_drawn drawn ≡ record_of (i / 8) number
+put-waits : (part i number : ℕ) (others old new : List ℕ) (waiting after : List Drawn) (drawn : Drawn) → i % 8 ≡ part → length waiting < 99 → plain_drawn drawn ≡ record_of (i / 8) number
     → new ≡ old → after ≡ waiting ++ drawn ∷ []
     → old ++ log_from part i (map plain_drawn waiting) (number ∷ others) ≡ new ++ log_from part (i + 1) (map plain_drawn after) others
 put-waits part i number others old new waiting after drawn own few is same e =
@@ -64,7 +64,7 @@ unfolding fails_from
 fails-own i x xs old new own e =
     let k = eq-eqb (fails_by x) 0 own in rw (k, e) (sym (append_assoc old (record { part = i % 8; offset = i / 8; times = 1 } ∷ []) (fails_from (i + 1) xs)))
 
-pub fails-none : (i : ℕ) → fails_from i [] ≡ []
+fails-none : (i : ℕ) → fails_from i [] ≡ []
 unfolding fails_from
 fails-none i = refl
 

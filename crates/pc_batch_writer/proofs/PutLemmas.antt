@@ -35,7 +35,7 @@ module _ {X Y : Type 0} (f : Y → List ℕ) (g : X → Y) (xs : List X) (i : �
       let k : length (now ++ (item ++ rest)) ≡ length (old ++ all) = ap length same in omega arith
 
   -- one more item was put
-  pub item-put : (now new old : List ℕ) → new ≡ now ++ f (g (get_or xs i d)) → now ++ flat_map f (map g (drop i xs)) ≡ old ++ flat_map f (map g xs)
+  item-put : (now new old : List ℕ) → new ≡ now ++ f (g (get_or xs i d)) → now ++ flat_map f (map g (drop i xs)) ≡ old ++ flat_map f (map g xs)
       → new ++ flat_map f (map g (drop (i + 1) xs)) ≡ old ++ flat_map f (map g xs)
   item-put now new old put e =
       let item = f (g (get_or xs i d)) in let rest = flat_map f (map g (drop (i + 1) xs)) in
@@ -56,7 +56,7 @@ unfolding groups_of
 groups_of-some zero u = omega arith
 groups_of-some (suc more) u = some-if (nat_lt u 128) u (128 + u % 128) [] (groups_of more (u / 128))
 
-pub shortest_of-some : (n : ℤ) → 0 < length (shortest_of n)
+shortest_of-some : (n : ℤ) → 0 < length (shortest_of n)
 unfolding shortest_of
 shortest_of-some n = groups_of-some 9 (zigzag_of n)
 

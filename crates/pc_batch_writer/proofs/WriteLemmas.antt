@@ -29,7 +29,7 @@ four-put old a b c new p q r s ea eb ec e =
     ∙ append_assoc ((old ++ p) ++ q) r s ∙ append_assoc (old ++ p) q (r ++ s) ∙ append_assoc old p (q ++ (r ++ s))
 
 -- three texts one after the other, from nothing on
-pub three-put : (out a b new p q r : List ℕ) → out ≡ [] → a ≡ out ++ p → b ≡ a ++ q → new ≡ b ++ r → new ≡ p ++ (q ++ r)
+three-put : (out a b new p q r : List ℕ) → out ≡ [] → a ≡ out ++ p → b ≡ a ++ q → new ≡ b ++ r → new ≡ p ++ (q ++ r)
 three-put out a b new p q r none ea eb e =
     e ∙ ap (λ x. x ++ r) (eb ∙ ap (λ x. x ++ q) (ea ∙ ap (λ x. x ++ p) none)) ∙ append_assoc p q r
 
@@ -60,7 +60,7 @@ covered-many base last first records many =
 
 -- ---- the last step
 
-pub short-far : (base last : ℕ) (covered : List ℕ) → 2 ^ 31 ≤ last - base → short base last covered ≡ Err TooLong
+short-far : (base last : ℕ) (covered : List ℕ) → 2 ^ 31 ≤ last - base → short base last covered ≡ Err TooLong
 short-far base last covered far = let e : nat_lt (2 ^ 31 - 1) (last - base) ≡ true = lt-ltb _ _ (omega arith) in rw e refl
 
 long-if : (a b : Bool) (text : List ℕ) → b ≡ true → (let due : Result (List ℕ) WriteFault = cond (a || b) (Err TooLong) (Ok text) in due) ≡ Err TooLong
@@ -68,7 +68,7 @@ long-if true b text e = refl
 long-if false true text e = refl
 long-if false false text e = absurd cc
 
-pub short-long : (base last : ℕ) (covered : List ℕ) → 2 ^ 31 ≤ 9 + length covered → short base last covered ≡ Err TooLong
+short-long : (base last : ℕ) (covered : List ℕ) → 2 ^ 31 ≤ 9 + length covered → short base last covered ≡ Err TooLong
 short-long base last covered long = long-if (nat_lt (2 ^ 31 - 1) (last - base)) (nat_lt (2 ^ 31 - 1) (9 + length covered)) (batch_spelling base covered) (lt-ltb _ _ (omega arith))
 
 pub short-ok : (base last : ℕ) (covered : List ℕ) → last - base < 2 ^ 31 → 9 + length covered < 2 ^ 31 → short base last covered ≡ Ok (batch_spelling base covered)
@@ -76,7 +76,7 @@ short-ok base last covered close few =
     let a : nat_lt (2 ^ 31 - 1) (last - base) ≡ false = le-ltb _ _ (omega arith) in let b : nat_lt (2 ^ 31 - 1) (9 + length covered) ≡ false = le-ltb _ _ (omega arith) in rw (a, b) refl
 
 -- the bytes that are covered were too many by themselves, or memory ran out
-pub short-fails : {V : Type 0} (items : V → List ℕ) (fault : WriteFault) (base last : ℕ) (covered : List ℕ) → Fails (length covered) fault → Answers items (short base last covered) (Err fault)
+short-fails : {V : Type 0} (items : V → List ℕ) (fault : WriteFault) (base last : ℕ) (covered : List ℕ) → Fails (length covered) fault → Answers items (short base last covered) (Err fault)
 short-fails items Empty base last covered h = absurd h
 short-fails items (OffsetsFall a b) base last covered h = absurd h
 short-fails items OffsetTooLarge base last covered h = absurd h
@@ -84,7 +84,7 @@ short-fails items TimeTooFar base last covered h = absurd h
 short-fails items TooLong base last covered h = inr (short-long base last covered (omega arith))
 short-fails items NoMemory base last covered h = inl refl
 
-pub short-gives : {V : Type 0} (items : V → List ℕ) (r : Result V WriteFault) (base last : ℕ) (made covered : List ℕ) → made ≡ covered → last - base < 2 ^ 31
+short-gives : {V : Type 0} (items : V → List ℕ) (r : Result V WriteFault) (base last : ℕ) (made covered : List ℕ) → made ≡ covered → last - base < 2 ^ 31
     → Gives items (9 + length made) (batch_spelling base made) r → IfOk r (λ _. 9 + length made < 2 ^ 31) → Answers items (short base last covered) r
 short-gives items (Ok v) base last made covered e near h few = subst (λ c. short base last c ≡ Ok (items v)) e (short-ok base last made near few ∙ ap (λ t. Ok t) (sym h))
 short-gives items (Err Empty) base last made covered e near h few = absurd h
@@ -94,7 +94,7 @@ short-gives items (Err TimeTooFar) base last made covered e near h few = absurd 
 short-gives items (Err TooLong) base last made covered e near h few = inr (subst (λ c. short base last c ≡ Err TooLong) e (short-long base last made h))
 short-gives items (Err NoMemory) base last made covered e near h few = inl refl
 
-pub within-near : (base last : ℕ) (first : ℤ) (records : List NewRecord) → last < base + 2 ^ 31 → All (IsWithin base last first) records → All (IsNear base first) records
+within-near : (base last : ℕ) (first : ℤ) (records : List NewRecord) → last < base + 2 ^ 31 → All (IsWithin base last first) records → All (IsNear base first) records
 within-near base last first records near all k d lt = let w = all k d lt in let a = w.within in record { above = w.above; moved = omega arith; time = w.time }
 
 -- ---- the offsets
@@ -166,7 +166,7 @@ module _ (records : List NewRecord) (first : NewRecord) (rest : List NewRecord) 
   pub batch-above : first.offset ≤ last
   batch-above = (rises first.offset last rest (ranged-is (offsets_from first.offset (map plain_new rest)) last ranged).0).above
 
-  pub batch-below : last < 2 ^ 63 - 1
+  batch-below : last < 2 ^ 63 - 1
   batch-below = (ranged-is (offsets_from first.offset (map plain_new rest)) last ranged).1
 
   near-same : list_all (λ (r : Record). fits_64 (r.time -ℤ first.time)) (map plain_new records) ≡ list_all (λ (r : NewRecord). fits_64 (r.time -ℤ first.time)) records
@@ -182,7 +182,7 @@ module _ (records : List NewRecord) (first : NewRecord) (rest : List NewRecord) 
   due-far far = due-then ∙ (let e = near-same ∙ far in rw e refl)
 
   -- no time is
-  pub due-near : list_all (λ (r : NewRecord). fits_64 (r.time -ℤ first.time)) records ≡ true → written_of (map plain_new records) ≡ short first.offset last (covered_spelling first.offset last first.time (map plain_new records))
+  due-near : list_all (λ (r : NewRecord). fits_64 (r.time -ℤ first.time)) records ≡ true → written_of (map plain_new records) ≡ short first.offset last (covered_spelling first.offset last first.time (map plain_new records))
   due-near near = due-then ∙ (let e = near-same ∙ near in rw e refl)
 
   -- each record is within the batch

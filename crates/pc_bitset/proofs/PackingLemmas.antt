@@ -25,7 +25,7 @@ use Rattle.pc_bitset.specs.Packing.{AppendsBits}
 use lib.Bits.{or_zero_r}
 
 -- a bytes count as `div_ceil` gives it
-pub byte_count-div_ceil : (n : ℕ) → div_ceil n 8 ≡ byte_count n
+byte_count-div_ceil : (n : ℕ) → div_ceil n 8 ≡ byte_count n
 byte_count-div_ceil n = omega arith
 
 -- the length of a spelling
@@ -56,13 +56,13 @@ bit_bytes-eights bit (suc q) =
     rw (e, ← replicate-append-replicate 8 (8 * q) bit, bit_bytes-append 1 (replicate 8 bit) (replicate (8 * q) bit) refl, bit_bytes-eights bit q) refl
 
 -- where the last of them fills its byte
-pub bit_bytes-replicate_whole : (bit : Bool) (n : ℕ) → n % 8 ≡ 0 → bit_bytes (replicate n bit) ≡ replicate (n / 8) (low_first (replicate 8 bit))
+bit_bytes-replicate_whole : (bit : Bool) (n : ℕ) → n % 8 ≡ 0 → bit_bytes (replicate n bit) ≡ replicate (n / 8) (low_first (replicate 8 bit))
 bit_bytes-replicate_whole bit n whole =
     let e : n ≡ 8 * (n / 8) = omega arith in
     ap (λ (k : ℕ). bit_bytes (replicate k bit)) e ∙ bit_bytes-eights bit (n / 8)
 
 -- where the last byte holds fewer than eight
-pub bit_bytes-replicate_part : (bit : Bool) (n : ℕ) → 0 < n % 8 → bit_bytes (replicate n bit) ≡ replicate (n / 8) (low_first (replicate 8 bit)) ++ low_first (replicate (n % 8) bit) ∷ []
+bit_bytes-replicate_part : (bit : Bool) (n : ℕ) → 0 < n % 8 → bit_bytes (replicate n bit) ≡ replicate (n / 8) (low_first (replicate 8 bit)) ++ low_first (replicate (n % 8) bit) ∷ []
 bit_bytes-replicate_part bit n part =
     let e : n ≡ 8 * (n / 8) + n % 8 = omega arith in
     let len = length-replicate (n % 8) bit in

@@ -89,7 +89,7 @@ number_reading-ok width n bytes is = elim (cases_Bool (nat_lt (length bytes) wid
 ]
 
 -- a number that was read fits
-pub number_reading-small : (width n : ℕ) (bytes : List ℕ) → width ≤ 4 → number_reading width bytes ≡ Ok n → n < 2 ^ 31
+number_reading-small : (width n : ℕ) (bytes : List ℕ) → width ≤ 4 → number_reading width bytes ≡ Ok n → n < 2 ^ 31
 number_reading-small width n bytes few is =
     let parts = number_reading-ok width n bytes is in
     let low = ltb-true (big_number width bytes) (2 ^ (8 * width - 1)) parts.1 in

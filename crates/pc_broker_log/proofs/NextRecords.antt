@@ -17,7 +17,7 @@ use Rattle.pc_broker_log.proofs.PolledLemmas.{rises-filter}
 
 -- ---- records from an offset on
 
-pub rises-all : (n : ℕ) (rs : List Record) → rises_from n rs ≡ true → not_below n rs ≡ rs
+rises-all : (n : ℕ) (rs : List Record) → rises_from n rs ≡ true → not_below n rs ≡ rs
 rises-all n rs e = all n n rs (omega arith) e
   where
     all : (least n : ℕ) (rs : List Record) → least ≤ n → rises_from n rs ≡ true
@@ -29,7 +29,7 @@ rises-all n rs e = all n n rs (omega arith) e
         let yes : leb least r.offset ≡ true = le-leb least r.offset (omega arith) in
         rw yes (ap (λ (l : List Record). r ∷ l) (all least (suc r.offset) rs (omega arith) rest))
 
-pub rises-get : (n : ℕ) (rs : List Record) (j : ℕ) (r : Record) → rises_from n rs ≡ true
+rises-get : (n : ℕ) (rs : List Record) (j : ℕ) (r : Record) → rises_from n rs ≡ true
     → slice_get rs j ≡ Some r → n ≤ r.offset
 rises-get n [] j r e at = absurd cc
 rises-get n (q ∷ qs) zero r e at = let same : q ≡ r = cc in
@@ -41,7 +41,7 @@ rises-get n (q ∷ qs) (suc j) r e at =
     omega (arith, first, rest)
 
 -- behind a record stand those above its offset
-pub drop-behind : (n : ℕ) (rs : List Record) (j : ℕ) (r : Record) → rises_from n rs ≡ true
+drop-behind : (n : ℕ) (rs : List Record) (j : ℕ) (r : Record) → rises_from n rs ≡ true
     → slice_get rs j ≡ Some r → drop (suc j) rs ≡ not_below (suc r.offset) rs
 drop-behind n [] j r e at = absurd cc
 drop-behind n (q ∷ qs) zero r e at =
@@ -56,7 +56,7 @@ drop-behind n (q ∷ qs) (suc j) r e at =
     let no : leb (suc r.offset) q.offset ≡ false = lt-leb (suc r.offset) q.offset (omega arith) in
     rw no (drop-behind (suc q.offset) qs j r rest at)
 
-pub not_below-both : (least offset : ℕ) (rs : List Record) → least ≤ offset
+not_below-both : (least offset : ℕ) (rs : List Record) → least ≤ offset
     → not_below offset (not_below least rs) ≡ not_below offset rs
 not_below-both least offset [] le = refl
 not_below-both least offset (r ∷ rs) le = by_test (leb least r.offset) refl
@@ -108,7 +108,7 @@ unpolled-poll given h p count last from r rise left some at =
     ∙ not_below-both from (suc r.offset) log (omega (arith, above))
 
 -- the last of the first records stands in all of them at the same place
-pub last-taken : (most : ℕ) (rs : List Record) → 0 < length (take most rs)
+last-taken : (most : ℕ) (rs : List Record) → 0 < length (take most rs)
     → slice_get rs (length (take most rs) - 1)
     ≡ slice_get (take most rs) (length (take most rs) - 1)
 last-taken most rs some = taken most rs (length (take most rs) - 1) (omega arith)
@@ -121,7 +121,7 @@ last-taken most rs some = taken most rs (length (take most rs) - 1) (omega arith
     taken (suc n) (r ∷ rs) (suc i) lt = taken n rs i (omega arith)
 
 -- what is known of a part just assigned: its records up to the end of the map
-pub known-assign : (given : Given) (h : List Event) (p epoch position : ℕ) (text : List ℕ)
+known-assign : (given : Given) (h : List Event) (p epoch position : ℕ) (text : List ℕ)
     (last : ℕ) → map_end (record { position = position; map = text }) ≡ suc last
     → known_records given (Assign p epoch position text ∷ h) p
     ≡ upto last (not_below position (records_of given p))

@@ -17,7 +17,7 @@ take-nil (suc n) = refl
 
 -- ---- one record after the other
 
-pub first-none : (most last : ℕ) → first_upto most last [] ≡ []
+first-none : (most last : ℕ) → first_upto most last [] ≡ []
 first-none most last = take-nil most
 
 pub first-one : (most last : ℕ) (r : Record) (rs : List Record) → 0 < most → r.offset ≤ last
@@ -33,7 +33,7 @@ first-one most last r rs some le =
     ap (take most) next ∙ ap (λ (n : ℕ). take n (r ∷ take_while
     (λ (q : Record). leb q.offset last) rs)) e
 
-pub first-over : (most last : ℕ) (r : Record) (rs : List Record) → last < r.offset
+first-over : (most last : ℕ) (r : Record) (rs : List Record) → last < r.offset
     → first_upto most last (r ∷ rs) ≡ []
 first-over most last r rs lt =
     let test : leb r.offset last ≡ false = lt-leb r.offset last lt in

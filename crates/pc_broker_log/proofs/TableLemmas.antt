@@ -38,7 +38,7 @@ logs_of-with items part log =
     ∙ ap (λ (n : ℕ). logs_of items ++ replicate (part + 1 - n) None)
     (sym (length-map items records_in)))
 
-pub log_at-view : (items : List (Option (List Placed))) (part : ℕ)
+log_at-view : (items : List (Option (List Placed))) (part : ℕ)
     → log_at (logs_of items) part ≡ records_in (option_flatten (slice_get items part))
 log_at-view items part = ap option_flatten (slice_get-map records_in items part)
     ∙ flat (slice_get items part)
@@ -98,7 +98,7 @@ slot-none (None ∷ xs) n zero e = refl
 slot-none (Some x ∷ xs) n zero e = absurd cc
 slot-none (x ∷ xs) n (suc part) e = slot-none xs n part e
 
-pub places-with : (logs : List (Option (List Record))) (part : ℕ) (log : List Record)
+places-with : (logs : List (Option (List Record))) (part : ℕ) (log : List Record)
     → length (with_log logs part log) ≡ length logs + (part + 1 - length logs)
 places-with logs part log =
     length-set (logs ++ replicate (part + 1 - length logs) None) part (Some log)
@@ -161,7 +161,7 @@ greatest-with logs part (suc n) log e old =
 
 -- ---- a table with one log more
 
-pub table-none : IsTable [] 0
+table-none : IsTable [] 0
 table-none = record {
   counted = refl;
   few = omega arith;
@@ -171,7 +171,7 @@ table-none = record {
   rise = refl;
 }
 
-pub table-with : (logs : List (Option (List Record))) (records part : ℕ) (log : List Record)
+table-with : (logs : List (Option (List Record))) (records part : ℕ) (log : List Record)
     → IsTable logs records → part < 1024 → is_some (log_at logs part) ≡ false
     → records + length log ≤ 1000000
     → rises_from 0 log ≡ true → IsTable (with_log logs part log) (records + length log)
@@ -210,7 +210,7 @@ pub record IsGrown (before now : List (Option (List Placed))) : Type 0 where
   pub more : length before ≤ length now
   pub same : now ≡ before ++ replicate (length now - length before) None
 
-pub grown-none : (before : List (Option (List Placed))) → IsGrown before before
+grown-none : (before : List (Option (List Placed))) → IsGrown before before
 grown-none before =
     let e : length before - length before ≡ 0 = omega arith in
     record {
@@ -219,7 +219,7 @@ grown-none before =
           ∙ append-nil before);
     }
 
-pub grown-more : (before now : List (Option (List Placed))) → IsGrown before now
+grown-more : (before now : List (Option (List Placed))) → IsGrown before now
     → IsGrown before (now ++ None ∷ [])
 grown-more before now g =
     let long : length (now ++ None ∷ []) ≡ length now + 1 = length-append now (None ∷ []) in
@@ -234,7 +234,7 @@ grown-more before now g =
           ∙ ap (λ (m : ℕ). before ++ replicate m None) n;
     }
 
-pub grown-all : (before now : List (Option (List Placed))) (len : ℕ) → IsGrown before now
+grown-all : (before now : List (Option (List Placed))) (len : ℕ) → IsGrown before now
     → len ≤ length now → length now - length before ≤ len - length before
     → now ≡ before ++ replicate (len - length before) None
 grown-all before now len g enough few = g.same ∙ ap (λ (m : ℕ). before
@@ -253,7 +253,7 @@ pub record IsFree (logs : List (Option (List Record))) (part records : ℕ) : Ty
   pub free : is_some (log_at logs part) ≡ false
   pub few : record_total logs + records ≤ 1000000
 
-pub free-part : (logs : List (Option (List Record))) (part records : ℕ)
+free-part : (logs : List (Option (List Record))) (part records : ℕ)
     → add_refusal logs part records ≡ None → IsFree logs part records
 free-part logs part records e = by_tests (leb 1024 part) (is_some (log_at logs part))
     (ltb 1000000 (record_total logs + records)) refl refl refl e

@@ -2,6 +2,7 @@
 use Rattle.std.specs.Prelude.{◌≡◌, ◌≤◌, ◌<◌, ℕ, ◌+◌, ◌-◌, true, List, [], ◌++◌, length, map, take, replicate, Option, Some, None, is_some, option_map, unwrap_or, nat_le, nat_lt, filter, slice_get, slice_set, if◌then◌else◌}
 use Rattle.std.specs.List.{list_all, take_while, sum_by}
 use Rattle.std.specs.Option.{option_flatten}
+use Rattle.pc_model.specs.declared.limits.TheConstants.{MAX_PARTS, MAX_RECORDS}
 use Rattle.pc_model.specs.Record.{Record}
 use Rattle.pc_model.specs.Given.{rises_from}
 use Rattle.pc_batch.specs.Batch.{Placed}
@@ -24,9 +25,9 @@ record_total logs = sum_by (λ log. length (unwrap_or log [])) logs
 -- why a log of so many records is not taken for the part, the first cause that applies
 abbrev pub add_refusal : List (Option (List Record)) → ℕ → ℕ → Option AddFault
 add_refusal logs part records =
-    if nat_le 1024 part then Some UnknownPart
+    if nat_le MAX_PARTS part then Some UnknownPart
     else if is_some (log_at logs part) then Some TwiceGiven
-    else if nat_lt 1000000 (record_total logs + records) then Some TooManyRecords
+    else if nat_lt MAX_RECORDS (record_total logs + records) then Some TooManyRecords
     else None
 
 -- the logs with one more, of this part
@@ -41,11 +42,11 @@ upto last records = filter (λ r. nat_le r.offset last) records
 abbrev pub first_upto : ℕ → ℕ → List Record → List Record
 first_upto most last records = take most (take_while (λ r. nat_le r.offset last) records)
 
--- a table of logs with so many records: parts are below 1,024, the last place has a log, and each
+-- a table of logs with so many records: parts are below the limit, the last place has a log, and each
 -- log's offsets rise
 pub record IsTable (logs : List (Option (List Record))) (records : ℕ) : Type 0 where
   pub counted : records ≡ record_total logs
-  pub few : records ≤ 1000000
-  pub places : length logs ≤ 1024
+  pub few : records ≤ MAX_RECORDS
+  pub places : length logs ≤ MAX_PARTS
   pub greatest : 0 < length logs → is_some (log_at logs (length logs - 1)) ≡ true
   pub rise : list_all (λ log. rises_from 0 (unwrap_or log [])) logs ≡ true

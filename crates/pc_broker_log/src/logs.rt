@@ -14,14 +14,9 @@ use crate::fault::AddFault;
 use crate::polled::Polled;
 use pc_batch::RecordRef;
 use pc_cursor::Log;
+use pc_model::limits::{MAX_PARTS, MAX_RECORDS};
 use std::alloc::{AllocError, Global};
 use std::marker::Model;
-
-/// Parts are below this number.
-const PARTS_MAX: u32 = 1024;
-
-/// The most records that all logs may have together.
-const RECORDS_MAX: u64 = 1_000_000;
 
 /// The checked logs of the parts, each part with at most one.
 #[derive(Debug, Drop)]
@@ -73,13 +68,13 @@ impl<'a> BrokerLogs<'a> {
             add_refusal self.now part records ≡ Some fault → result ≡ Err fault }
         ensures allowed { OnErr result (is_some (add_refusal self.now part records) ≡ true) }
     {
-        if part >= PARTS_MAX {
+        if part >= MAX_PARTS {
             return Err(AddFault::UnknownPart);
         }
         if self.log(part).is_some() {
             return Err(AddFault::TwiceGiven);
         }
-        if records > RECORDS_MAX - self.records {
+        if records > u64::from(MAX_RECORDS) - self.records {
             return Err(AddFault::TooManyRecords);
         }
         Ok(())
@@ -125,8 +120,8 @@ impl<'a> BrokerLogs<'a> {
         ensures greatest { 0 < result → is_some (log_at self.now (result - 1)) ≡ true }
         // Parts are below 1,024, all records are at most 1,000,000, and the offsets of each log
         // rise.
-        ensures most { result ≤ 1024 }
-        ensures few { record_total self.now ≤ 1000000 }
+        ensures most { result ≤ MAX_PARTS }
+        ensures few { record_total self.now ≤ MAX_RECORDS }
         ensures rise { list_all (λ log. rises_from 0 (unwrap_or log [])) self.now ≡ true }
     {
         self.logs.len() as u32

@@ -160,7 +160,7 @@ with_bytes-xor (b ∷ bytes) r s fits =
     ∙ ap (bit_xor (with_bytes (with_bits 8 r b) bytes)) (with_bits-more 8 (8 * length bytes) s ∙ ap (λ (k : ℕ). with_bits k s 0) counted)
 
 -- the first byte's part, by itself
-pub with_bytes-first : (b : ℕ) (bytes : List ℕ) (r : ℕ) → AreBytes (b ∷ bytes) → with_bytes r (b ∷ bytes) ≡ bit_xor (with_bytes (r / 256) bytes) (with_bits (8 * suc (length bytes)) (bit_xor (r % 256) b) 0)
+with_bytes-first : (b : ℕ) (bytes : List ℕ) (r : ℕ) → AreBytes (b ∷ bytes) → with_bytes r (b ∷ bytes) ≡ bit_xor (with_bytes (r / 256) bytes) (with_bits (8 * suc (length bytes)) (bit_xor (r % 256) b) 0)
 unfolding with_bytes
 with_bytes-first b bytes r fits =
     let rest : AreBytes bytes = λ i. fits (suc i) in
@@ -171,7 +171,7 @@ with_bytes-first b bytes r fits =
     ∙ ap (bit_xor (with_bytes (r / 256) bytes)) (with_bits-more 8 (8 * length bytes) met ∙ ap (λ (k : ℕ). with_bits k met 0) counted)
 
 -- the bytes, one part after the other
-pub with_bytes-append : (xs ys : List ℕ) (r : ℕ) → with_bytes r (xs ++ ys) ≡ with_bytes (with_bytes r xs) ys
+with_bytes-append : (xs ys : List ℕ) (r : ℕ) → with_bytes r (xs ++ ys) ≡ with_bytes (with_bytes r xs) ys
 unfolding with_bytes
 with_bytes-append [] ys r = refl
 with_bytes-append (x ∷ xs) ys r = with_bytes-append xs ys (with_bits 8 r x)
@@ -189,7 +189,7 @@ step-of b bytes r low high rest fits high-is low-is rest-is =
     ∙ ap (λ (m : ℕ). bit_xor rest (with_bits (8 * suc (length bytes)) (bit_xor m b) 0)) low-is
 
 -- eight bytes, each by itself
-pub with_block-is : (r b0 b1 b2 b3 b4 b5 b6 b7 : ℕ) → r < 2 ^ 32 → AreBytes (b0 ∷ b1 ∷ b2 ∷ b3 ∷ b4 ∷ b5 ∷ b6 ∷ b7 ∷ []) → with_bytes r (b0 ∷ b1 ∷ b2 ∷ b3 ∷ b4 ∷ b5 ∷ b6 ∷ b7 ∷ [])
+with_block-is : (r b0 b1 b2 b3 b4 b5 b6 b7 : ℕ) → r < 2 ^ 32 → AreBytes (b0 ∷ b1 ∷ b2 ∷ b3 ∷ b4 ∷ b5 ∷ b6 ∷ b7 ∷ []) → with_bytes r (b0 ∷ b1 ∷ b2 ∷ b3 ∷ b4 ∷ b5 ∷ b6 ∷ b7 ∷ [])
     ≡ bit_xor (bit_xor (bit_xor (bit_xor (bit_xor (bit_xor (bit_xor (with_bits 8 b7 0) (with_bits 16 b6 0)) (with_bits 24 b5 0)) (with_bits 32 b4 0)) (with_bits 40 (bit_xor (r / 16777216 % 256) b3) 0)) (with_bits 48 (bit_xor (r / 65536 % 256) b2) 0)) (with_bits 56 (bit_xor (r / 256 % 256) b1) 0)) (with_bits 64 (bit_xor (r % 256) b0) 0)
 with_block-is r b0 b1 b2 b3 b4 b5 b6 b7 fits bytes =
     let t1 = AreBytes-rest b0 (b1 ∷ b2 ∷ b3 ∷ b4 ∷ b5 ∷ b6 ∷ b7 ∷ []) bytes in

@@ -15,7 +15,7 @@ use Rattle.pc_bytes.specs.Varint.{zigzag_of, signed_of, unsigned_of, is_open, Is
 use Rattle.pc_bytes.proofs.VarintLemmas.{unsigned_of-lt}
 
 -- zigzag and back
-pub signed_of-zigzag_of : (z : ℤ) → signed_of (zigzag_of z) ≡ z
+signed_of-zigzag_of : (z : ℤ) → signed_of (zigzag_of z) ≡ z
 signed_of-zigzag_of (pos n) =
     let even : 2 * n % 2 ≡ 0 = omega arith in
     let half : 2 * n / 2 ≡ n = omega arith in
@@ -25,7 +25,7 @@ signed_of-zigzag_of (negsuc n) =
     let half : (2 * n + 1) / 2 ≡ n = omega arith in
     rw (odd, half) refl
 
-pub zigzag_of-signed_of : (u : ℕ) → zigzag_of (signed_of u) ≡ u
+zigzag_of-signed_of : (u : ℕ) → zigzag_of (signed_of u) ≡ u
 zigzag_of-signed_of u = by_parity u (eqb (u % 2) 0) refl
   where
     by_parity : (u : ℕ) (b : Bool) → eqb (u % 2) 0 ≡ b → zigzag_of (cond b (pos (u / 2)) (negsuc (u / 2))) ≡ u
@@ -38,7 +38,7 @@ IsGroups-cons b [] h g = absurd g
 IsGroups-cons b (c ∷ bytes) h g = (h, g)
 
 -- the groups of a number are groups
-pub IsGroups-groups_of : (more u : ℕ) → u < 128 ^ suc more → IsGroups (groups_of more u)
+IsGroups-groups_of : (more u : ℕ) → u < 128 ^ suc more → IsGroups (groups_of more u)
 unfolding groups_of
 IsGroups-groups_of zero u h = omega arith
 IsGroups-groups_of (suc more) u h =
@@ -56,7 +56,7 @@ length-groups_of-le (suc more) u =
       | inr le ↦ rw (le-ltb u 128 le) (let rest = length-groups_of-le more (u / 128) in omega arith)
     ]
 
-pub unsigned_of-groups_of : (more u : ℕ) → u < 128 ^ suc more → unsigned_of (groups_of more u) ≡ u
+unsigned_of-groups_of : (more u : ℕ) → u < 128 ^ suc more → unsigned_of (groups_of more u) ≡ u
 unfolding groups_of
 unsigned_of-groups_of zero u h = omega arith
 unsigned_of-groups_of (suc more) u h =
@@ -66,7 +66,7 @@ unsigned_of-groups_of (suc more) u h =
     ]
 
 -- no fewer groups stand for the number
-pub groups_of-least : (more u len : ℕ) → 0 < len → u < 128 ^ len → length (groups_of more u) ≤ len
+groups_of-least : (more u len : ℕ) → 0 < len → u < 128 ^ len → length (groups_of more u) ≤ len
 unfolding groups_of
 groups_of-least zero u len some h = omega arith
 groups_of-least (suc more) u zero some h = absurd (omega arith)
@@ -107,7 +107,7 @@ text-of text rest last e = let one : last + 1 ≡ length text = omega arith in a
 rest-of : (text rest : List ℕ) (last : ℕ) → suc last ≡ length text → drop (last + 1) (text ++ rest) ≡ rest
 rest-of text rest last e = let one : last + 1 ≡ length text = omega arith in ap (λ (n : ℕ). drop n (text ++ rest)) one ∙ drop_at text rest (length text) refl
 
-pub unsigned_at-again : (most limit : ℕ) (text rest : List ℕ) → IsGroups text → length text ≤ most → unsigned_of text < limit → unsigned_at most limit (text ++ rest) ≡ Ok (unsigned_of text, rest)
+unsigned_at-again : (most limit : ℕ) (text rest : List ℕ) → IsGroups text → length text ≤ most → unsigned_of text < limit → unsigned_at most limit (text ++ rest) ≡ Ok (unsigned_of text, rest)
 unfolding unsigned_at
 unsigned_at-again most limit text rest groups short fits =
     let bytes = text ++ rest in
@@ -197,7 +197,7 @@ spells_by most limit last bytes x false false true is ea eb ec e =
     not_le x y e = grind (arith, e)
 
 -- what is read at the front is a spelling of it
-pub unsigned_at-spells : (most limit : ℕ) (bytes : List ℕ) (x : ℕ × List ℕ) → unsigned_at most limit bytes ≡ Ok x → Spells most limit bytes x.0 x.1
+unsigned_at-spells : (most limit : ℕ) (bytes : List ℕ) (x : ℕ × List ℕ) → unsigned_at most limit bytes ≡ Ok x → Spells most limit bytes x.0 x.1
 unfolding unsigned_at
 unsigned_at-spells most limit bytes x e =
     let last = prefix_len is_open (take most bytes) in

@@ -4,11 +4,11 @@ use Rattle.std.proofs.Math.Nat.{mul-le-mul, pow-le-pow_right, pow-succ'}
 use Rattle.pc_bytes.specs.Varint.{unsigned_of}
 
 -- the weight of a group
-pub weight-le : (i : ℕ) → i < 10 → 128 ^ i ≤ 2 ^ 63
+weight-le : (i : ℕ) → i < 10 → 128 ^ i ≤ 2 ^ 63
 weight-le i h = let le : i ≤ 9 = omega arith in pow-le-pow_right {n = 128} (omega arith) le
 
 -- a group at its weight
-pub group-le : (b i : ℕ) → i < 10 → b % 128 * 128 ^ i ≤ 2 ^ 70
+group-le : (b i : ℕ) → i < 10 → b % 128 * 128 ^ i ≤ 2 ^ 70
 group-le b i h =
     let low : b % 128 ≤ 128 = omega arith in
     mul-le-mul low (weight-le i h)
@@ -21,7 +21,7 @@ unsigned_of-take_suc (b ∷ bytes) (suc i) h =
     let more = unsigned_of-take_suc bytes i (omega arith) in
     rw more (rw (pow-succ' 128 i) (omega arith))
 
-pub unsigned_of-take_more : (bytes : List ℕ) (i : ℕ) → i < length bytes → unsigned_of (take (i + 1) bytes) ≡ unsigned_of (take i bytes) + get_or bytes i 0 % 128 * 128 ^ i
+unsigned_of-take_more : (bytes : List ℕ) (i : ℕ) → i < length bytes → unsigned_of (take (i + 1) bytes) ≡ unsigned_of (take i bytes) + get_or bytes i 0 % 128 * 128 ^ i
 unsigned_of-take_more bytes i h = rw add-one (unsigned_of-take_suc bytes i h)
 
 -- groups stand for less than the next weight

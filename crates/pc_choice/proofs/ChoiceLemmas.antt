@@ -26,12 +26,12 @@ text_size-spelled letter (Some bytes) = elim (cases_Bool (nat_le (length (map_te
 ]
 
 -- the size of a letter's text
-pub text_size-text_of : (letter : ℕ) (bits : List Bool) → option_map sized (text_of letter bits) ≡ text_size letter (option_map (length {A = ℕ}) (spelling_of letter bits))
+text_size-text_of : (letter : ℕ) (bits : List Bool) → option_map sized (text_of letter bits) ≡ text_size letter (option_map (length {A = ℕ}) (spelling_of letter bits))
 unfolding text_of
 text_size-text_of letter bits = text_size-spelled letter (spelling_of letter bits)
 
 -- the size of the shorter text
-pub smaller_size-shorter : (first second : Option (ℕ × List ℕ)) → option_map sized (shorter first second) ≡ smaller_size (option_map sized first) (option_map sized second)
+smaller_size-shorter : (first second : Option (ℕ × List ℕ)) → option_map sized (shorter first second) ≡ smaller_size (option_map sized first) (option_map sized second)
 smaller_size-shorter None second = refl
 smaller_size-shorter (Some first) None = refl
 smaller_size-shorter (Some first) (Some second) = elim (cases_Bool (nat_lt (length second.1) (length first.1))) [
@@ -112,7 +112,7 @@ IsSpelled-shortest_text bits =
     IsSpelled-shorter bits _ _ (IsSpelled-shorter bits _ _ (IsSpelled-shorter bits _ _ (IsSpelled-text_of 108 bits) (IsSpelled-text_of 110 bits)) (IsSpelled-text_of 111 bits)) (IsSpelled-text_of 101 bits)
 
 -- the shortest text by its letter and its size
-pub shortest_text-spelled : (bits : List Bool) (letter size : ℕ) → Some (letter, size) ≡ option_map sized (shortest_text bits)
+shortest_text-spelled : (bits : List Bool) (letter size : ℕ) → Some (letter, size) ≡ option_map sized (shortest_text bits)
     → (bytes : List ℕ) × (spelling_of letter bits ≡ Some bytes) × (shortest_text bits ≡ Some (letter, map_text letter bytes)) × (length (map_text letter bytes) ≡ size)
 shortest_text-spelled bits letter size is = go (shortest_text bits) refl is (IsSpelled-shortest_text bits) where
   go : (best : Option (ℕ × List ℕ)) → shortest_text bits ≡ best → Some (letter, size) ≡ option_map sized best → IsSpelled bits best

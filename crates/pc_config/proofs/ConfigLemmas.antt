@@ -7,7 +7,7 @@ use Rattle.toml.specs.Parse.{parse_document}
 use Rattle.pc_model.specs.declared.setup.SetupField.{SetupField}
 use Rattle.pc_model.specs.declared.outcome.FailRule.{FailRule}
 use Rattle.pc_model.specs.declared.outcome.Start.{Start}
-use Rattle.pc_model.specs.Ranges.{range_fault, delays_fault, rules_fault, starts_fault, settings_fault}
+use Rattle.pc_model.specs.Ranges.{range_fault, range_of, delays_fault, rules_fault, starts_fault, settings_fault}
 use Rattle.pc_config.specs.declared.scalars.FrontKeys.{FrontKeys}
 use Rattle.pc_config.specs.declared.scalars.BackKeys.{BackKeys}
 use Rattle.pc_config.specs.declared.fault.ConfigFault.TheVariants.{NotToml}
@@ -34,8 +34,8 @@ config_of-not bytes h = ap or_not_toml (not_document bytes (is_utf8 bytes) (λ e
 
 -- ---- ranges
 
-pub range_fault-in : (field : SetupField) (least most v : ℕ) → least ≤ v → v ≤ most → range_fault field least most v ≡ None
-range_fault-in field least most v low high = rw (le-leb least v low, le-leb v most high) refl
+pub range_fault-in : (field : SetupField) (v : ℕ) → (range_of field).0 ≤ v → v ≤ (range_of field).1 → range_fault field v ≡ None
+range_fault-in field v low high = rw (le-leb (range_of field).0 v low, le-leb v (range_of field).1 high) refl
 
 pub ok_public : {A : Type 0} (P : A → Type 0) (r : Result A KeyFault) (x : A) → public r ≡ Ok x → IfOk r P → P x
 ok_public P (Ok y) x e h =

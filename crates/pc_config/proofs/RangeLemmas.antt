@@ -44,7 +44,7 @@ not_chosen_ok : {A : Type 0} (b : Bool) (x : A) (fault : KeyFault) (y : A) → c
 not_chosen_ok true x fault y e = absurd cc
 not_chosen_ok false x fault y e = (refl, ok_is x y e)
 
-abbrev pub IsIn : Key → ℕ → Type 0
+abbrev IsIn : Key → ℕ → Type 0
 IsIn k n = (least_of k ≤ n) × (n ≤ most_of k)
 
 within : (k : Key) (n : ℕ) → (leb (least_of k) n && leb n (most_of k)) ≡ true → IsIn k n
@@ -58,11 +58,11 @@ number_in_ok k (pos m) n e =
     subst (IsIn k) found.1 (within k m found.0)
 number_in_ok k (negsuc m) n e = absurd cc
 
-pub number_of_ok : (k : Key) (value : Option ℤ) (n : ℕ) → number_of k value ≡ Ok n → IsIn k n
+number_of_ok : (k : Key) (value : Option ℤ) (n : ℕ) → number_of k value ≡ Ok n → IsIn k n
 number_of_ok k None n e = absurd cc
 number_of_ok k (Some z) n e = number_in_ok k z n e
 
-pub number_needed_ok : (k : Key) (value : Option (Option ℤ)) (n : ℕ) → number_needed k value ≡ Ok n → IsIn k n
+number_needed_ok : (k : Key) (value : Option (Option ℤ)) (n : ℕ) → number_needed k value ≡ Ok n → IsIn k n
 number_needed_ok k None n e = absurd cc
 number_needed_ok k (Some value) n e = number_of_ok k value n e
 
@@ -87,7 +87,7 @@ more fault (b ∷ before) y none one =
 
 module _ {A B : Type 0} (read : List B → A → Result B ConfigFault) where
   -- as many as there were items
-  pub length-read_each : (before : List B) (xs : List A) (all : List B) → read_each read before xs ≡ Ok all → length all ≡ length before + length xs
+  length-read_each : (before : List B) (xs : List A) (all : List B) → read_each read before xs ≡ Ok all → length all ≡ length before + length xs
   unfolding read_each
   length-read_each before [] all e = ap length (sym (ok_is before all e)) ∙ omega arith
   length-read_each before (x ∷ xs) all e =
@@ -96,7 +96,7 @@ module _ {A B : Type 0} (read : List B → A → Result B ConfigFault) where
       grind (arith, rest, length-append before (one.0 ∷ []))
 
   -- what each reading keeps holds of all that was read
-  pub read_each-keeps : (P : List B → Type 0) → ((before : List B) (x : A) (y : B) → P before → read before x ≡ Ok y → P (before ++ y ∷ [])) → (before : List B) (xs : List A) (all : List B) → P before → read_each read before xs ≡ Ok all → P all
+  read_each-keeps : (P : List B → Type 0) → ((before : List B) (x : A) (y : B) → P before → read before x ≡ Ok y → P (before ++ y ∷ [])) → (before : List B) (xs : List A) (all : List B) → P before → read_each read before xs ≡ Ok all → P all
   unfolding read_each
   read_each-keeps P keeps before [] all holds e = subst P (ok_is before all e) holds
   read_each-keeps P keeps before (x ∷ xs) all holds e =
@@ -104,12 +104,12 @@ module _ {A B : Type 0} (read : List B → A → Result B ConfigFault) where
       read_each-keeps P keeps (before ++ one.0 ∷ []) xs all (keeps before x one.0 holds one.1) one.2
 
   -- none of what was read has a fault
-  pub first_some-read_each : (fault : B → Option SetupFault) → ((before : List B) (x : A) (y : B) → read before x ≡ Ok y → fault y ≡ None) → (xs : List A) (all : List B) → read_each read [] xs ≡ Ok all → first_some fault all ≡ None
+  first_some-read_each : (fault : B → Option SetupFault) → ((before : List B) (x : A) (y : B) → read before x ≡ Ok y → fault y ≡ None) → (xs : List A) (all : List B) → read_each read [] xs ≡ Ok all → first_some fault all ≡ None
   first_some-read_each fault good xs all e =
       read_each-keeps (λ (ys : List B). first_some fault ys ≡ None) (λ before x y none one. more fault before y none (good before x y one)) [] xs all refl e
 
 -- a list that was read: the default, or its items, as many as the key takes
-pub list_or_ok : {B : Type 0} (P : List B → Type 0) (k : Key) (is_item : Data → Bool) (read : List B → Data → Result B ConfigFault) (default : List B) (value : Option (Option (List Data))) (all : List B) → list_or k is_item read default value ≡ Ok all → P default → ((items : List Data) → IsIn k (length items) → read_each read [] items ≡ Ok all → P all) → P all
+list_or_ok : {B : Type 0} (P : List B → Type 0) (k : Key) (is_item : Data → Bool) (read : List B → Data → Result B ConfigFault) (default : List B) (value : Option (Option (List Data))) (all : List B) → list_or k is_item read default value ≡ Ok all → P default → ((items : List Data) → IsIn k (length items) → read_each read [] items ≡ Ok all → P all) → P all
 list_or_ok P k is_item read default None all e first rest = subst P (ok_is default all e) first
 list_or_ok P k is_item read default (Some None) all e first rest = absurd cc
 list_or_ok P k is_item read default (Some (Some items)) all e first rest =
@@ -119,7 +119,7 @@ list_or_ok P k is_item read default (Some (Some items)) all e first rest =
 delay_in_range : (before : List ℕ) (d : Data) (n : ℕ) → delay_of before d ≡ Ok n → delay_fault n ≡ None
 delay_in_range before d n e =
     let fits = number_of_ok key.Delay (as_integer d) n (public_ok (number_of key.Delay (as_integer d)) n e) in
-    range_fault-in field.Delay 0 86400000 n fits.0 fits.1
+    range_fault-in field.Delay n fits.0 fits.1
 
 pub delays_of-in_range : (ms : Members) (all : List ℕ) → delays_of ms ≡ Ok all → delays_fault all ≡ None
 unfolding delays_of
@@ -127,7 +127,7 @@ delays_of-in_range ms all e =
     list_or_ok (λ ds. delays_fault ds ≡ None) key.Delays is_integer delay_of (100 ∷ []) (list_at key.Delays ms) all e refl (λ items many read.
     let same : length all ≡ length items = length-read_each delay_of [] items all read ∙ omega arith in
     let none : first_some delay_fault all ≡ None = first_some-read_each delay_of delay_fault delay_in_range items all read in
-    rw (range_fault-in field.Delays 1 16 (length all) (omega (arith, same, many.0)) (omega (arith, same, many.1)), none) refl)
+    rw (range_fault-in field.Delays (length all) (omega (arith, same, many.0)) (omega (arith, same, many.1)), none) refl)
 
 -- ---- fail
 
@@ -144,7 +144,7 @@ fail_numbers_ok ms r e =
     let offset_in = number_needed_ok key.FailOffset (integer_at key.FailOffset ms) offset.0 offset.1 in
     let times_in = number_needed_ok key.FailTimes (integer_at key.FailTimes ms) n.0 n.1 in
     let good : rule_fault (record { part = part.0; offset = offset.0; times = n.0 }) ≡ None =
-    rw (range_fault-in field.FailPart 0 1023 part.0 part_in.0 part_in.1, range_fault-in field.FailOffset 0 (2 ^ 63 - 2) offset.0 offset_in.0 offset_in.1, range_fault-in field.FailTimes 1 1000000 n.0 times_in.0 times_in.1) refl in
+    rw (range_fault-in field.FailPart part.0 part_in.0 part_in.1, range_fault-in field.FailOffset offset.0 offset_in.0 offset_in.1, range_fault-in field.FailTimes n.0 times_in.0 times_in.1) refl in
     subst (λ (rule : FailRule). rule_fault rule ≡ None) (ok_is (record { part = part.0; offset = offset.0; times = n.0 }) r n.2) good
 
 fail_of_ok : (t : Option Members) (r : FailRule) → fail_of t ≡ Ok r → rule_fault r ≡ None
@@ -159,7 +159,7 @@ fails_of-in_range ms all e =
     list_or_ok (λ fs. rules_fault fs ≡ None) key.Fail is_table fail_item [] (list_at key.Fail ms) all e refl (λ items many read.
     let same : length all ≡ length items = length-read_each fail_item [] items all read ∙ omega arith in
     let none : first_some rule_fault all ≡ None = first_some-read_each fail_item rule_fault (λ before d r one. fail_of_ok (as_table d) r one) items all read in
-    rw (range_fault-in field.Fails 0 1000000 (length all) (omega (arith, same, many.0)) (omega (arith, same, many.1)), none) refl)
+    rw (range_fault-in field.Fails (length all) (omega (arith, same, many.0)) (omega (arith, same, many.1)), none) refl)
 
 -- ---- start
 
@@ -202,7 +202,7 @@ start_place_ok before ms given e =
     subst (λ (p : ℕ × ℕ). IsPlace before p) (ok_is (part.0, position.0) given position.2) good
 
 -- a start in range, of a part that none before has
-abbrev pub IsGoodStart : List Start → Start → Type 0
+abbrev IsGoodStart : List Start → Start → Type 0
 IsGoodStart before s = (start_fault s ≡ None) × (list_any (λ t. t.part == s.part) before ≡ false)
 
 start_values_ok : (before : List Start) (ms : Members) (s : Start) → start_values before ms ≡ Ok s → IsGoodStart before s
@@ -213,7 +213,7 @@ start_values_ok before ms s e =
     let at = start_place_ok before ms given.0 (public_ok (start_place before ms) given.0 given.1) in
     let short = start_map_ok ms text.0 (public_ok (start_map ms) text.0 text.1) in
     let good : start_fault (record { part = given.0.0; position = given.0.1; map = text.0 }) ≡ None =
-    rw (range_fault-in field.StartPart 0 1023 given.0.0 (omega arith) at.part, range_fault-in field.StartPosition 0 (2 ^ 63 - 1) given.0.1 (omega arith) at.position, range_fault-in field.StartMap 0 4096 (length text.0) (omega arith) short) refl in
+    rw (range_fault-in field.StartPart given.0.0 (omega arith) at.part, range_fault-in field.StartPosition given.0.1 (omega arith) at.position, range_fault-in field.StartMap (length text.0) (omega arith) short) refl in
     subst (λ (start : Start). IsGoodStart before start) (ok_is (record { part = given.0.0; position = given.0.1; map = text.0 }) s text.2) (good, at.free)
 
 start_of_ok : (before : List Start) (t : Option Members) (s : Start) → start_of before t ≡ Ok s → IsGoodStart before s
@@ -239,4 +239,4 @@ starts_of-in_range ms all e =
     let same : length all ≡ length items = length-read_each start_item [] items all read ∙ omega arith in
     let none : first_some start_fault all ≡ None = first_some-read_each start_item start_fault (λ before d s one. (start_of_ok before (as_table d) s one).0) items all read in
     let once : twice_fault [] all ≡ None = read_each-keeps start_item (λ (ss : List Start). twice_fault [] ss ≡ None) (λ before d s holds one. twice_fault-more [] before s holds (start_of_ok before (as_table d) s one).1) [] items all refl read in
-    rw (range_fault-in field.Starts 0 1024 (length all) (omega (arith, same, many.0)) (omega (arith, same, many.1)), none, once) refl)
+    rw (range_fault-in field.Starts (length all) (omega (arith, same, many.0)) (omega (arith, same, many.1)), none, once) refl)

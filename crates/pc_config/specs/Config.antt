@@ -9,7 +9,7 @@ use Rattle.pc_model.specs.declared.choices.BadMapRule.TheVariants as bad_map
 use Rattle.pc_model.specs.declared.outcome.FailRule.{FailRule}
 use Rattle.pc_model.specs.declared.outcome.Start.{Start}
 use Rattle.pc_model.specs.declared.setup.Settings.{Settings}
-use Rattle.pc_model.specs.Defaults.{settings_of}
+use Rattle.pc_model.specs.declared.limits.TheConstants.{MAX_METADATA_BYTES, MAX_RECORDS}
 use Rattle.pc_config.specs.declared.config.Config.{Config}
 use Rattle.pc_config.specs.declared.scalars.FrontKeys.{FrontKeys}
 use Rattle.pc_config.specs.declared.scalars.BackKeys.{BackKeys}
@@ -28,7 +28,7 @@ pub record Configured : Type 0 where
   pub workers : ℕ
 
 abbrev pub configured : Config → Configured
-configured c = record { settings = settings_of c.setup; workers = c.workers }
+configured c = record { settings = c.setup.settings; workers = c.workers }
 
 -- the keys before the delays
 unfoldable pub front_of : Members → Result FrontKeys KeyFault
@@ -36,7 +36,7 @@ front_of ms = do
   order ← word_or key.Order order_named order.None (text_at key.Order ms)
   work ← word_or key.Function work_named work.Length (text_at key.Function ms)
   workers ← number_or key.Workers 16 (integer_at key.Workers ms)
-  map_limit ← number_or key.MapLimit 4096 (integer_at key.MapLimit ms)
+  map_limit ← number_or key.MapLimit MAX_METADATA_BYTES (integer_at key.MapLimit ms)
   press_percent ← number_or key.PressPercent 75 (integer_at key.PressPercent ms)
   Ok (record { order = order; work = work; workers = workers; map_limit = map_limit; press_percent = press_percent })
 
@@ -89,16 +89,16 @@ config_of bytes = or_not_toml (if is_utf8 bytes then parse_document bytes else N
 pub record IsFront (f : FrontKeys) : Type 0 where
   pub workers_least : 1 ≤ f.workers
   pub workers_most : f.workers ≤ 256
-  pub map_limit_most : f.map_limit ≤ 4096
+  pub map_limit_most : f.map_limit ≤ MAX_METADATA_BYTES
   pub press_percent_least : 1 ≤ f.press_percent
   pub press_percent_most : f.press_percent ≤ 100
 
 pub record IsBack (b : BackKeys) : Type 0 where
   pub give_up_least : 1 ≤ b.give_up
-  pub give_up_most : b.give_up ≤ 1000000
+  pub give_up_most : b.give_up ≤ MAX_RECORDS
   pub buffer_least : 1 ≤ b.buffer
-  pub buffer_most : b.buffer ≤ 1000000
+  pub buffer_most : b.buffer ≤ MAX_RECORDS
   pub poll_max_least : 1 ≤ b.poll_max
-  pub poll_max_most : b.poll_max ≤ 1000000
+  pub poll_max_most : b.poll_max ≤ MAX_RECORDS
   pub commit_every_least : 1 ≤ b.commit_every
-  pub commit_every_most : b.commit_every ≤ 1000000
+  pub commit_every_most : b.commit_every ≤ MAX_RECORDS

@@ -2,7 +2,7 @@
 
 ghost use Rattle.std.specs.Prelude.{◌≡◌, ◌≤◌, [], Ok, Err, None, IfOk, IfErr};
 ghost use Rattle.toml.specs.View.{table_view};
-ghost use Rattle.pc_model.specs.Defaults.{default_settings, settings_of};
+ghost use Rattle.pc_model.specs.Defaults.{default_settings};
 ghost use Rattle.pc_model.specs.Ranges.{settings_fault};
 ghost use Rattle.pc_config.specs.declared.fault.ConfigFault.TheVariants.{NoMemory};
 ghost use Rattle.pc_config.specs.Config.{config_of, configured, configured_of, settings_from, IsFront};
@@ -114,7 +114,7 @@ fn in_range(settings: Settings, workers: u32) -> Config
 /// The configuration of the empty text. The only error is out of memory.
 pub fn default_config(alloc: Global) -> Result<Config, AllocError>
     ensures empty { IfOk result (λ c. config_of [] ≡ Ok (configured c)) }
-    ensures settings { IfOk result (λ c. settings_of c.setup ≡ default_settings) }
+    ensures settings { IfOk result (λ c. c.setup.settings ≡ default_settings) }
     ensures workers { IfOk result (λ c. c.workers ≡ 16) }
 {
     Ok(Config {

@@ -4,6 +4,7 @@ ghost use Rattle.std.specs.Prelude.{◌≡◌};
 ghost use Rattle.pc_config.specs.Keys.{place_of, word_of, least_of, most_of};
 
 use crate::place::Place;
+use pc_model::limits::{MAX_DELAY, MAX_METADATA_BYTES, MAX_PARTS, MAX_RECORDS, MAX_WORKERS};
 
 /// A key. `Delay` is one item of `delays`.
 #[derive(Clone, Copy, Debug, PartialEq, Eq)]
@@ -40,9 +41,9 @@ pub(crate) struct Row {
     pub(crate) most: u64,
 }
 
-const LAST_PART: u64 = 1_023;
+const LAST_PART: u64 = MAX_PARTS as u64 - 1;
 
-const MOST_TIMES: u64 = 1_000_000;
+const MAX_NUMBER: u64 = MAX_RECORDS as u64;
 
 const LAST_POSITION: u64 = (1 << 63) - 1;
 
@@ -57,24 +58,24 @@ impl Key {
         match self {
             Key::Order => key_row(Place::Top, "order", 0, 0),
             Key::Function => key_row(Place::Top, "function", 0, 0),
-            Key::Workers => key_row(Place::Top, "workers", 1, 256),
-            Key::MapLimit => key_row(Place::Top, "map_limit", 0, 4_096),
+            Key::Workers => key_row(Place::Top, "workers", 1, u64::from(MAX_WORKERS)),
+            Key::MapLimit => key_row(Place::Top, "map_limit", 0, MAX_METADATA_BYTES as u64),
             Key::PressPercent => key_row(Place::Top, "press_percent", 1, 100),
             Key::Delays => key_row(Place::Top, "delays", 1, 16),
-            Key::Delay => key_row(Place::Top, "delays", 0, 86_400_000),
-            Key::GiveUp => key_row(Place::Top, "give_up", 1, 1_000_000),
-            Key::Buffer => key_row(Place::Top, "buffer", 1, 1_000_000),
-            Key::PollMax => key_row(Place::Top, "poll_max", 1, 1_000_000),
-            Key::CommitEvery => key_row(Place::Top, "commit_every", 1, 1_000_000),
+            Key::Delay => key_row(Place::Top, "delays", 0, MAX_DELAY),
+            Key::GiveUp => key_row(Place::Top, "give_up", 1, MAX_NUMBER),
+            Key::Buffer => key_row(Place::Top, "buffer", 1, MAX_NUMBER),
+            Key::PollMax => key_row(Place::Top, "poll_max", 1, MAX_NUMBER),
+            Key::CommitEvery => key_row(Place::Top, "commit_every", 1, MAX_NUMBER),
             Key::BadMap => key_row(Place::Top, "bad_map", 0, 0),
-            Key::Fail => key_row(Place::Top, "fail", 0, 1_000_000),
+            Key::Fail => key_row(Place::Top, "fail", 0, MAX_NUMBER),
             Key::FailPart => key_row(Place::Fail, "part", 0, LAST_PART),
             Key::FailOffset => key_row(Place::Fail, "offset", 0, LAST_POSITION - 1),
-            Key::FailTimes => key_row(Place::Fail, "times", 1, MOST_TIMES),
-            Key::Start => key_row(Place::Top, "start", 0, 1_024),
+            Key::FailTimes => key_row(Place::Fail, "times", 1, MAX_NUMBER),
+            Key::Start => key_row(Place::Top, "start", 0, u64::from(MAX_PARTS)),
             Key::StartPart => key_row(Place::Start, "part", 0, LAST_PART),
             Key::StartPosition => key_row(Place::Start, "position", 0, LAST_POSITION),
-            Key::StartMap => key_row(Place::Start, "map", 0, 4_096),
+            Key::StartMap => key_row(Place::Start, "map", 0, MAX_METADATA_BYTES as u64),
         }
     }
 }

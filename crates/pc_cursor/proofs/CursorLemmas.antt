@@ -8,7 +8,7 @@ use Rattle.pc_batch.proofs.BatchLaws.{batch_from-takes}
 use Rattle.pc_cursor.specs.Cursor.{and_on, front_from, records_from}
 
 -- a batch lies inside the log, and ends further on
-pub batch-inside : (log : List ℕ) (place : ℕ) (b : Placed) → batch_from log place ≡ Ok b
+batch-inside : (log : List ℕ) (place : ℕ) (b : Placed) → batch_from log place ≡ Ok b
     → (place < length log) × (place < b.end)
 batch-inside log place b e =
     let is = batch_from-takes log place b e in
@@ -52,7 +52,7 @@ pub front-suc : (n : ℕ) (log : List ℕ) (place : ℕ) (b : Placed) → batch_
 unfolding front_from
 front-suc n log place b e = rw e refl
 
-pub front-zero : (log : List ℕ) (place : ℕ) → front_from 0 log place ≡ []
+front-zero : (log : List ℕ) (place : ℕ) → front_from 0 log place ≡ []
 unfolding front_from
 front-zero log place = refl
 

@@ -87,7 +87,7 @@ pub count_of-cons : (b : Placed) (bs : List Placed)
 count_of-cons b bs = ap length (flat_map-cons given_by b.contents (contents_of bs))
     ∙ length-append (given_by b.contents) (records_of (contents_of bs))
 
-pub count_of-push : (front : List Placed) (b : Placed)
+count_of-push : (front : List Placed) (b : Placed)
     → count_of (front ++ b ∷ []) ≡ count_of front + length (given_by b.contents)
 count_of-push [] b = count_of-cons b [] ∙ (let e : length (given_by b.contents) + 0
     ≡ 0 + length (given_by b.contents) = omega arith in e)
@@ -97,7 +97,7 @@ count_of-push (f ∷ front) b =
     let more = count_of-push front b in
     omega (arith, one, two, more)
 
-pub entries_from-push : (place before : ℕ) (front : List Placed) (b : Placed)
+entries_from-push : (place before : ℕ) (front : List Placed) (b : Placed)
     → entries_from place before (front ++ b ∷ [])
     ≡ entries_from place before front ++ record {
       place = end_of place front;
@@ -133,7 +133,7 @@ entries_from-push place before (f ∷ front) b =
       before = n;
     } ∷ []) e)
 
-pub end_of-push : (place : ℕ) (front : List Placed) (b : Placed)
+end_of-push : (place : ℕ) (front : List Placed) (b : Placed)
     → end_of place (front ++ b ∷ []) ≡ b.end
 end_of-push place [] b = refl
 end_of-push place (f ∷ front) b = end_of-push f.end front b

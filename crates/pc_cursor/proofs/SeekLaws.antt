@@ -44,7 +44,7 @@ lasts-above (b ∷ bs) log place last n s (suc j) d lt =
     omega (arith, is.is_batch.is_last, rest)
 
 -- the last offsets rise
-pub lasts-rise : (bs : List Placed) (log : List ℕ) (place : ℕ) (before : Option ℕ) (n : ℕ)
+lasts-rise : (bs : List Placed) (log : List ℕ) (place : ℕ) (before : Option ℕ) (n : ℕ)
     → Stand log place before bs → IsNonDecreasingBy (λ (e : Entry). e.last)
     (entries_from place n bs)
 lasts-rise [] log place before n s i j d le lt = absurd (omega arith)
@@ -65,7 +65,7 @@ befores-above (b ∷ bs) place n (suc j) d lt = let h =
     befores-above bs b.end (n + length (given_by b.contents)) j d (omega arith) in omega (arith, h)
 
 -- the numbers of records before them do not fall
-pub befores-rise : (bs : List Placed) (place n : ℕ)
+befores-rise : (bs : List Placed) (place n : ℕ)
     → IsNonDecreasingBy (λ (e : Entry). e.before) (entries_from place n bs)
 befores-rise [] place n i j d le lt = absurd (omega arith)
 befores-rise (b ∷ bs) place n zero zero d le lt = omega arith
@@ -83,7 +83,7 @@ place_at log None = length log
 place_at log (Some e) = e.place
 
 -- the batches that are passed over have no record that is not below
-pub seek-skips : (bs : List Placed) (p : ℕ) (log : List ℕ) (place : ℕ) (before : Option ℕ)
+seek-skips : (bs : List Placed) (p : ℕ) (log : List ℕ) (place : ℕ) (before : Option ℕ)
     (n offset : ℕ) → Stand log place before bs
     → AllWithin (λ (e : Entry). ltb e.last offset ≡ true) (entries_from place n bs) 0 p
     → not_below offset (records_from log (place_at log (slice_get (entries_from place n bs) p)))
@@ -147,7 +147,7 @@ none-behind (b ∷ bs) place n total e all =
     (omega arith) (omega arith)) in
     no-records (records_of (contents_of (b ∷ bs))) (omega arith)
 
-pub last-batch : (bs : List Placed) (q : ℕ) (log : List ℕ) (place : ℕ) (before : Option ℕ)
+last-batch : (bs : List Placed) (q : ℕ) (log : List ℕ) (place : ℕ) (before : Option ℕ)
     (n total : ℕ) (d : Entry) → Stand log place before bs → total ≡ n + count_of bs
     → AllWithin (λ (e : Entry). ltb e.before total ≡ true) (entries_from place n bs) 0 (suc q)
     → AllWithin (λ (e : Entry). ltb e.before total
@@ -232,7 +232,7 @@ not_below-zero (r ∷ rs) = let yes : leb 0 r.offset ≡ true = le-leb 0 r.offse
     rw yes (ap (λ (l : List Record). r ∷ l) (not_below-zero rs))
 
 -- what a cursor has left, behind one record that it gave from its batch, and behind none
-pub gives-one : (least : ℕ) (xs ys more : List Record) (r : Record)
+gives-one : (least : ℕ) (xs ys more : List Record) (r : Record)
     → not_below least xs ≡ r ∷ not_below least ys → not_below least (xs ++ more)
     ≡ r ∷ not_below least (ys ++ more)
 gives-one least xs ys more r e =

@@ -18,7 +18,7 @@ use Rattle.pc_commit.specs.Resume.{mapped_records, resumed_marks}
 
 module _ (given : Given) (h : List Event) (p epoch : ℕ) where
   -- an offset is complete where the stored commit passes over it
-  pub is_complete-assign : IsLegal given h → (stored : Commit) (o : ℕ)
+  is_complete-assign : IsLegal given h → (stored : Commit) (o : ℕ)
       → is_complete (Assign p epoch stored.position stored.map ∷ h) p o ≡ passes stored o
   unfolding is_complete
   is_complete-assign legal stored o =

@@ -98,9 +98,9 @@ polled-below given h p r i = below (slice_get given.logs p) refl (polled-record 
     below (Some log) is j = slice_get_within given.logs p log is
 
 -- it is the first of its ordering key
-pub first-plain : (given : Given) (p : ℕ) (es : List Entry) (e : Entry) → given.setup.order
+first-plain : (given : Given) (p : ℕ) (es : List Entry) (e : Entry) → given.setup.settings.order
     ≡ NoOrder
-    → is_first given.setup.order p es e ≡ true
+    → is_first given.setup.settings.order p es e ≡ true
 first-plain given p es e plain = rw plain
     (list_all-each (λ (q : Entry). not (nat_lt q.offset e.offset &&
     ((p == p) && (q.offset == e.offset)))) es
@@ -117,9 +117,9 @@ first-plain given p es e plain = rw plain
       | inr ge ↦ rw ge refl
     ]
 
-pub open-first : (given : Given) (h : List Event) (p o : ℕ) → given.setup.order ≡ NoOrder
+open-first : (given : Given) (h : List Event) (p o : ℕ) → given.setup.settings.order ≡ NoOrder
     → is_held h p ≡ true → IsOpen given h p o
-    → is_first_offset given.setup.order p (entries_of given h p) o ≡ true
+    → is_first_offset given.setup.settings.order p (entries_of given h p) o ≡ true
 open-first given h p o plain held at =
     let incomplete : not (is_complete h p at.entry.offset) ≡ true =
     subst (λ (u : ℕ). not (is_complete h p u) ≡ true) (sym at.offset) (ap not at.incomplete) in
@@ -131,7 +131,7 @@ open-first given h p o plain held at =
     at.polled incomplete) in
     let first = first-plain given p (entries_of given h p)
     (entry_of (λ r. is_out h p r.offset) at.entry) plain in
-    list_any-In (λ (e : Entry). (e.offset == o) && is_first given.setup.order p
+    list_any-In (λ (e : Entry). (e.offset == o) && is_first given.setup.settings.order p
     (entries_of given h p) e)
     (entry_of (λ r. is_out h p r.offset) at.entry) (entries_of given h p)
     (subst (λ (es : List Entry). In (entry_of (λ r. is_out h p r.offset) at.entry) es)

@@ -84,7 +84,7 @@ dispatched-small given h s knows =
 -- ---- its job
 
 -- its epoch is the part's
-pub dispatch-epoch : (given : Given) (h : List Event) (s : State) (p o : ℕ) (part : PartState)
+dispatch-epoch : (given : Given) (h : List Event) (s : State) (p o : ℕ) (part : PartState)
     → Knows given h s → next_record given h ≡ Some (p, o) → part ≡ get_or s.parts.items p part
     → part.epoch ≡ epoch_of h p
 dispatch-epoch given h s p o part knows next part_is =
@@ -99,7 +99,7 @@ pub job-due : (given : Given) (h : List Event) (s : State) (worker p o : ℕ) (p
     → part ≡ get_or s.parts.items p part
     → Some entry ≡ find (λ r. r.offset == o) (unwrap_or
     (option_flatten (slice_get s.logs.now p)) [])
-    → rules ≡ s.setup.now.rules
+    → rules ≡ s.setup.now.settings.rules
     → ◌≡◌ {A = PlainJob} (record {
       ticket = s.dispatched + 1;
       worker = worker;
@@ -116,7 +116,7 @@ job-due given h s worker p o part entry rules knows next part_is found rules_is 
     (epoch_of h p) o)) in
     let entry_is : entry ≡ unwrap_or (record_at given p o) no_record =
     ap (λ (r : Option Record). unwrap_or r no_record) (found ∙ logs-record given h s p o knows) in
-    let own : rules ≡ given.setup.rules = rules_is ∙ ap (λ setup. setup.rules) (sym knows.setup) in
+    let own : rules ≡ given.setup.settings.rules = rules_is ∙ ap (λ setup. setup.settings.rules) (sym knows.setup) in
     rw (knows.dispatched, epoch, entry_is, own) (ap (λ (n : ℕ). record {
       ticket = dispatch_count h + 1;
       worker = worker;
@@ -124,7 +124,7 @@ job-due given h s worker p o part entry rules knows next part_is found rules_is 
       epoch = epoch_of h p;
       attempt = n;
       entry = unwrap_or (record_at given p o) no_record;
-      rules = given.setup.rules;
+      rules = given.setup.settings.rules;
     }) attempt)
 
 -- ---- what a dispatch changes

@@ -101,7 +101,7 @@ module _ (state : State) (h : List Event) (told : Bool) (kept : ℕ → Commit) 
             room = omega (arith, count, enough, less);
           }))
 
-      pub assigned-does : map_refusal state.setup.now.bad_map stored ≡ None
+      pub assigned-does : map_refusal state.setup.now.settings.bad_map stored ≡ None
           → Does {A = Unit {0}} (Ok tt) (assign_step given h p (Ok stored)) h h'
       assigned-does reads = assign-does state.setup.now state.logs.now h told kept p
           (epoch_of h p) stored h' none reads refl event-is

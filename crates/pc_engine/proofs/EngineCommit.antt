@@ -50,7 +50,7 @@ given-commit new h v told kept kept' p held quiet others =
     ]
 
 -- a commit that failed for another cause than memory
-pub commit_with-failed : (p : ℕ) (c : SizedCommit) (f : ClientFault) → (f ≡ client.NoMemory → ⊥)
+commit_with-failed : (p : ℕ) (c : SizedCommit) (f : ClientFault) → (f ≡ client.NoMemory → ⊥)
     → commit_with p c (Err f) ≡ record {
       answer = Err (Client f);
       events = CommitFailed p c.commit.position c.commit.map c.size ∷ [];
@@ -67,7 +67,7 @@ module _ (state : State) (h : List Event) (told : Bool) (kept : ℕ → Commit) 
   may : MayCommit given h p
   may = may_commit given h p none
 
-  pub commit-below : p < length given.logs
+  commit-below : p < length given.logs
   commit-below = log-below given.logs p may.known
 
   pub commit-small : p < 1024

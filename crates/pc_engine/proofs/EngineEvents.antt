@@ -40,7 +40,7 @@ IsEngine-event given kept state new room room' h v keeps knows same no_end no_dr
 }
 
 -- the same state with at least the room that is wanted
-pub IsEngine-same : (given : Given) (kept : ℕ → Commit) (state new : State) (room room' : ℕ)
+IsEngine-same : (given : Given) (kept : ℕ → Commit) (state new : State) (room room' : ℕ)
     (h : List Event) → IsEngine given kept state room h → Knows given h new
     → length (open_jobs h) ≤ room' → IsEngine given kept new room' h
 IsEngine-same given kept state new room room' h keeps knows enough = record {
@@ -63,8 +63,8 @@ room-limit h more room = elim (cases_lt 4000000 (length h + length (open_jobs h)
 
 module _ (setup : Setup) (logs : List (Option (List Record))) (told : Bool) (kept : ℕ → Commit)
     (state : State) (starts : (given : Given) → given.setup ≡ setup → given.logs ≡ logs
-    → IsPlain given → Knows given [] state) (order : setup.order ≡ NoOrder)
-    (fails : setup.rules.fails ≡ []) where
+    → IsPlain given → Knows given [] state) (order : setup.settings.order ≡ NoOrder)
+    (fails : setup.settings.rules.fails ≡ []) where
   known : Knows (given_by setup logs [] told kept) [] state
   known = starts (given_by setup logs [] told kept) refl refl
       (record { order = order; fails = fails })

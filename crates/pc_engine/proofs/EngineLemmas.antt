@@ -11,8 +11,7 @@ use Rattle.pc_model.specs.declared.setup.SetupField.{SetupField}
 use Rattle.pc_model.specs.declared.setup.SetupField.TheVariants.{MapLimit}
 use Rattle.pc_model.specs.declared.setup.SetupFault.{SetupFault}
 use Rattle.pc_model.specs.declared.setup.SetupFault.TheVariants.{OutOfRange}
-use Rattle.pc_model.specs.Ranges.{number_fault, range_fault, settings_fault}
-use Rattle.pc_model.specs.Defaults.{settings_of}
+use Rattle.pc_model.proofs.SetupLaws.{setup-within}
 use Rattle.pc_model.specs.declared.commit.Commit.{Commit}
 use Rattle.pc_model.specs.declared.event.Event.{Event}
 use Rattle.pc_model.specs.declared.event.Event.TheVariants.{Assign, Revoke, Lost, Crash}
@@ -305,7 +304,7 @@ assign-unmade r given h h' p told b n n' was same = (
 )
 
 -- an assignment whose fetch failed
-pub assign-unfetched : (r : Result (Unit {0}) EngineFault) (f : ClientFault) (given : Given)
+assign-unfetched : (r : Result (Unit {0}) EngineFault) (f : ClientFault) (given : Given)
     (h h' : List Event) (p : ℕ) (told : Bool) (b : Broker) (n n' : ℕ) → r ≡ Err (engine_fault_of f)
     → assign_refusal given h p ≡ None → IsFetched told b n n' p (Err f) → h' ≡ h
     → (outcome : Result Commit ClientFault)
@@ -318,10 +317,10 @@ assign-unfetched r f given h h' p told b n n' was none gives same = (
 )
 
 -- an assignment whose map does not read
-pub assign-misread : (r : Result (Unit {0}) EngineFault) (f : EngineFault) (given : Given)
+assign-misread : (r : Result (Unit {0}) EngineFault) (f : EngineFault) (given : Given)
     (h h' : List Event) (p : ℕ) (told : Bool) (b : Broker) (n n' : ℕ) (stored : Commit) (rule : BadMapRule)
     → r ≡ Err f → assign_refusal given h p ≡ None → IsFetched told b n n' p (Ok stored)
-    → rule ≡ given.setup.bad_map
+    → rule ≡ given.setup.settings.bad_map
     → (f ≡ NoMemory) ⊎ ((m : MapFault) × (f ≡ BadMap m) × (map_refusal rule stored ≡ Some m))
     → h' ≡ h
     → (outcome : Result Commit ClientFault)
@@ -339,7 +338,7 @@ assign-misread r f given h h' p told b n n' stored rule was none gives same_rule
 -- the effect of an assignment that nothing refuses
 pub assign-does : (setup : Setup) (logs : List (Option (List Record))) (h : List Event) (told : Bool) (kept : ℕ → Commit)
     (p epoch : ℕ) (stored : Commit) (h' : List Event)
-    → assign_refusal (given_by setup logs h told kept) h p ≡ None → map_refusal setup.bad_map stored
+    → assign_refusal (given_by setup logs h told kept) h p ≡ None → map_refusal setup.settings.bad_map stored
     ≡ None → epoch ≡ epoch_of h p
     → h' ≡ Assign p (epoch + 1) stored.position stored.map ∷ h
     → Does {A = Unit {0}} (Ok tt)
@@ -432,7 +431,7 @@ may_keep-failed b b' p c (client.BadReply fault) gives = absurd gives
 may_keep-failed b b' p c (client.OtherReply asked got) gives = absurd gives
 
 -- a commit by a history that is this one
-pub sized-along : (setup : Setup) (logs : List (Option (List Record))) (h k : List Event) (told : Bool)
+sized-along : (setup : Setup) (logs : List (Option (List Record))) (h k : List Event) (told : Bool)
     (kept : ℕ → Commit) (p : ℕ) (sized : SizedCommit) → k ≡ h
     → sized ≡ commit_of (given_by setup logs k told kept) k p
     → sized ≡ commit_of (given_by setup logs h told kept) h p
@@ -440,28 +439,8 @@ sized-along setup logs h k told kept p sized same is =
     subst (λ (x : List Event). sized ≡ commit_of (given_by setup logs x told kept) x p) same is
 
 -- a map within the limit of a setup is within that of a message
-or-none : (a b : Option SetupFault) → is_none (option_or a b) ≡ true → a ≡ None
-or-none None b is = refl
-or-none (Some f) b is = cc
-
-none-most : (field : SetupField) (a b : Bool) (v : ℕ) → ◌≡◌ {A = Option SetupFault} (cond (a && b) None (Some (OutOfRange field 0 4096))) None
-    → b ≡ true
-none-most field true true v is = refl
-none-most field true false v is = cc
-none-most field false b v is = cc
-
-is_true : (b : Bool) → IsTrue b → b ≡ true
-is_true true is = refl
-is_true false is = cc
-
-limit-small : (s : Settings) → is_none (settings_fault s) ≡ true → s.map_limit ≤ 4096
-unfolding settings_fault
-limit-small s is = leb-true s.map_limit 4096
-    (none-most MapLimit (nat_le 0 s.map_limit) (nat_le s.map_limit 4096) s.map_limit
-    (or-none (range_fault MapLimit 0 4096 s.map_limit) _ (ap is_none (or-none (number_fault s) _ is))))
-
-pub small-map : (setup : Setup) (n : ℕ) → n ≤ setup.map_limit → n < 2 ^ 15
-small-map setup n le = let limit : setup.map_limit ≤ 4096 = limit-small (settings_of setup) (is_true _ setup.in_range) in
+pub small-map : (setup : Setup) (n : ℕ) → n ≤ setup.settings.map_limit → n < 2 ^ 15
+small-map setup n le = let limit : setup.settings.map_limit ≤ 4096 = (setup-within setup).map_limit.most in
     omega arith
 
 -- ---- what is said of a commit
@@ -470,7 +449,7 @@ pub same-failure : (f g : ClientFault) → ◌≡◌ {A = Result Receipt EngineF
     → ◌≡◌ {A = Result (Unit {0}) ClientFault} (Err f) (Err g)
 same-failure f g is = cc
 
-pub refused-not : (o : Option EngineFault) (f : EngineFault) → o ≡ None → o ≡ Some f → ⊥
+refused-not : (o : Option EngineFault) (f : EngineFault) → o ≡ None → o ≡ Some f → ⊥
 refused-not o f none some = cc
 
 does-refused_commit : (o : Option EngineFault) (f : EngineFault) (given : Given) (h h' : List Event)

@@ -126,7 +126,7 @@ module _ (given : Given) (h : List Event) (p : ℕ) (legal : IsLegal given h) wh
   unpolled-rises = Rises-drop (polled_count h p) 0 (records_from_begin given h p)
       (from_begin-rises given h legal p)
 
-  pub next-front : (max : ℕ) → next_records given h p max
+  next-front : (max : ℕ) → next_records given h p max
       ≡ take (length (next_records given h p max)) (unpolled_records given h p)
   unfolding pollable_records
   next-front max =
@@ -137,7 +137,7 @@ module _ (given : Given) (h : List Event) (p : ℕ) (legal : IsLegal given h) wh
       ap (take max) front ∙ take-take max (length pollable) (unpolled_records given h p)
       ∙ ap (λ (rs : List Record). take (length (take max rs)) (unpolled_records given h p)) (sym front)
 
-  pub next-count : (max : ℕ) (records : List (ℕ × Option (Bor (List ℕ))))
+  next-count : (max : ℕ) (records : List (ℕ × Option (Bor (List ℕ))))
       → plain_next records ≡ map offset_and_key (next_records given h p max)
       → length records ≡ length (next_records given h p max)
   next-count max records is =
@@ -154,7 +154,7 @@ module _ (given : Given) (h : List Event) (p : ℕ) (legal : IsLegal given h) wh
       ∙ ap (λ (n : ℕ). take n (unpolled_records given h p)) (sym (next-count max records is)))
 
 -- the first record that is left, if none presses it
-pub first-taken : (given : Given) (h : List Event) (p max first : ℕ) → 0 < max
+first-taken : (given : Given) (h : List Event) (p max first : ℕ) → 0 < max
     → option_map (λ r. r.offset) (slice_get (unpolled_records given h p) 0) ≡ Some first
     → may_poll given h p first ≡ true → 0 < length (next_records given h p max)
 unfolding pollable_records
@@ -226,7 +226,7 @@ may-poll given h p none = elim (cases_Bool (has_ended h)) [
 ]
 
 -- a blocked part presses a record exactly where that is above its high
-pub pressed-above : (given : Given) (h : List Event) (p o high : ℕ)
+pressed-above : (given : Given) (h : List Event) (p o high : ℕ)
     → Some high ≡ (if is_blocked given h p then high_of given h p else None)
     → ◌≡◌ {A = Result (Unit {0}) EngineFault}
     (if nat_le o high then Ok tt else Err (Pressed high))
@@ -269,7 +269,7 @@ free-first given h p o u is = free (is_blocked given h p) (is_upto_high given h 
     free true false is = cc
 
 -- one that it may not is refused
-pub poll-pressed : (given : Given) (h : List Event) (p max first : ℕ) (r : Result ℕ EngineFault)
+poll-pressed : (given : Given) (h : List Event) (p max first : ℕ) (r : Result ℕ EngineFault)
     (f : EngineFault) → poll_refusal given h p ≡ None
     → Some first ≡ option_map (λ r. r.offset) (slice_get (unpolled_records given h p) 0)
     → r ≡ Err f → ◌≡◌ {A = Result (Unit {0}) EngineFault} (Err f)
@@ -323,7 +323,7 @@ module _ (given : Given) (h : List Event) (p max first : ℕ)
           (subst (λ (o : ℕ). may_poll given h p o ≡ true) (same first r.offset is) free)) refl
 
   -- without a place it is refused
-  pub poll-full : (r : Result ℕ EngineFault) (f : EngineFault) (h' : List Event) → r ≡ Err f
+  poll-full : (r : Result ℕ EngineFault) (f : EngineFault) (h' : List Event) → r ≡ Err f
       → ◌≡◌ {A = Result (Unit {0}) EngineFault} (Err f)
       (if is_full h 1 then Err JournalFull else Ok tt) → h' ≡ h
       → Does r (poll_step given h p max) h h'
@@ -337,7 +337,7 @@ module _ (given : Given) (h : List Event) (p max first : ℕ)
           → ◌≡◌ {A = Result (Unit {0}) EngineFault} (Err f) (Err JournalFull) → f ≡ JournalFull
       fault-is f e = cc
 
-  pub poll-does : (count last : ℕ) (h1 h' : List Event) (u : Unit {0})
+  poll-does : (count last : ℕ) (h1 h' : List Event) (u : Unit {0})
       → ◌≡◌ {A = Result (Unit {0}) EngineFault} (Ok u)
       (if is_full h 1 then Err JournalFull else Ok tt)
       → count ≡ length (next_records given h p max)

@@ -22,12 +22,12 @@ use Rattle.pc_engine.proofs.EngineTake.{not-full}
 
 module _ (given : Given) (h : List Event) (p more : ℕ) (runs : has_ended h ≡ false) where
   -- without a log the part is not known
-  pub release-unknown : (r : Result (Unit {0}) EngineFault) (f : EngineFault) → r ≡ Err f
+  release-unknown : (r : Result (Unit {0}) EngineFault) (f : EngineFault) → r ≡ Err f
       → f ≡ UnknownPart → has_log given p ≡ false → r ≡ refused_by (held_refusal given h p more)
   release-unknown r f was is unknown = rw (runs, unknown) (was ∙ ap (λ (x : EngineFault). Err x) is)
 
   -- a part that is not held is not given back
-  pub release-free : has_log given p ≡ true → false ≡ is_held h p
+  release-free : has_log given p ≡ true → false ≡ is_held h p
       → ◌≡◌ {A = Result (Unit {0}) EngineFault} (Err NotHeld)
       (refused_by (held_refusal given h p more))
   release-free known free = rw (runs, known, ← free) refl
@@ -38,7 +38,7 @@ module _ (given : Given) (h : List Event) (p more : ℕ) (runs : has_ended h ≡
   room-is false = refl
 
   -- and a held one but for want of room
-  pub release-room : (r : Result (Unit {0}) EngineFault) → has_log given p ≡ true
+  release-room : (r : Result (Unit {0}) EngineFault) → has_log given p ≡ true
       → true ≡ is_held h p → r ≡ cond (is_full h more) (Err JournalFull) (Ok tt)
       → r ≡ refused_by (held_refusal given h p more)
   release-room r known held was = rw (runs, known, ← held) (was ∙ room-is (is_full h more))
@@ -113,7 +113,7 @@ module _ (state : State) (h : List Event) (told : Bool) (kept : ℕ → Commit) 
     limit = let limit = room-limit h 1 room_left in omega (arith, limit);
   }
 
-  pub crashed-keeps : (new : State) (h1 h' : List Event) (room1 room' n : ℕ) (u : Unit {0})
+  crashed-keeps : (new : State) (h1 h' : List Event) (room1 room' n : ℕ) (u : Unit {0})
       → ◌≡◌ {A = Result (Unit {0}) EngineFault} (Ok u)
       (cond (is_full h 1) (Err JournalFull) (Ok tt))
       → (MayCome given Crash h → Knows given (Crash ∷ h) new)

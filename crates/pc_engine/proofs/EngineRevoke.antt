@@ -35,7 +35,7 @@ Stores told b b' n n' p given h r h' = (outcome : Result (Unit {0}) ClientFault)
     × Does r (commit_step given h p outcome) h h'
 
 -- the same of a revocation
-abbrev pub Revokes : Bool → Broker → Broker → ℕ → ℕ → ℕ → Given → List Event
+abbrev Revokes : Bool → Broker → Broker → ℕ → ℕ → ℕ → Given → List Event
     → Result (Option ClientFault) EngineFault → List Event → Type 0
 Revokes told b b' n n' p given h r h' = (outcome : Result (Unit {0}) ClientFault)
     × IsStored told b b' n n' p (commit_of given h p).commit outcome

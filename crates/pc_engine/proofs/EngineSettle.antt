@@ -62,7 +62,7 @@ module _ (given : Given) (h : List Event) (job : PlainJob)
   ticket-due : ticket_outcome given h job.ticket ≡ Some (due_outcome job)
   unfolding ticket_outcome
   ticket-due = rw out.1 (ap (λ (k : OpenJob). option_map
-      (λ r. outcome_of given.setup.rules k.part r k.attempt)
+      (λ r. outcome_of given.setup.settings.rules k.part r k.attempt)
       (find (λ r. r.offset == k.offset) (records_of given k.part))) out.2
       ∙ rw (expected.entry, expected.rules) refl)
 

@@ -23,7 +23,7 @@ kept_of job = record
     { part = job.part; offset = job.entry.offset; epoch = job.epoch; attempt = job.attempt }
 
 -- the record of the logs at its offset
-abbrev pub found_in : State → PlainJob → Option Record
+abbrev found_in : State → PlainJob → Option Record
 found_in s job = find (λ r. r.offset == job.entry.offset)
     (unwrap_or (option_flatten (slice_get s.logs.now job.part)) [])
 
@@ -31,7 +31,7 @@ found_in s job = find (λ r. r.offset == job.entry.offset)
 pub expected-found : (given : Given) (h : List Event) (s : State) (job : PlainJob) (entry : Record)
     (rules : Rules) (out : Option OpenJob) (b : Bool) → Knows given h s
     → out ≡ option_map kept_job (open_job h job.ticket) → out ≡ Some (kept_of job)
-    → Some entry ≡ found_in s job → rules ≡ s.setup.now.rules
+    → Some entry ≡ found_in s job → rules ≡ s.setup.now.settings.rules
     → (IsTrue b ↔ ((job.entry ≡ entry) × (job.rules ≡ rules))) → (IsTrue b ↔ IsExpected given h job)
 expected-found given h s job entry rules out b knows out_is kept found rules_is is = (
   λ t. record {
@@ -39,13 +39,13 @@ expected-found given h s job entry rules out b knows out_is kept found rules_is 
     entry = sym (logs-record given h s job.part job.entry.offset knows) ∙ sym found ∙ ap
         (λ (r : Record). Some r)
         (sym (is.0 t).0);
-    rules = (is.0 t).1 ∙ rules_is ∙ ap (λ setup. setup.rules) (sym knows.setup);
+    rules = (is.0 t).1 ∙ rules_is ∙ ap (λ setup. setup.settings.rules) (sym knows.setup);
   },
   λ e.
       let same : Some job.entry ≡ Some entry = sym e.entry ∙ sym
       (logs-record given h s job.part job.entry.offset knows)
       ∙ sym found in
-      is.1 (cc, e.rules ∙ ap (λ setup. setup.rules) knows.setup ∙ sym rules_is),
+      is.1 (cc, e.rules ∙ ap (λ setup. setup.settings.rules) knows.setup ∙ sym rules_is),
 )
 
 -- nor any where the logs have none

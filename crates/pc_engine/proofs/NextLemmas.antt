@@ -36,7 +36,7 @@ first-append f (x ∷ xs) ys = ap (λ o. option_or (f x) o) (first-append f xs y
     or-assoc (Some y) b c = refl
 
 -- after a part, the parts behind it and then those up to it
-pub cyclic-after : {Y : Type 0} (f : ℕ → Option Y) (n p from : ℕ) → from ≡ min n (p + 1)
+cyclic-after : {Y : Type 0} (f : ℕ → Option Y) (n p from : ℕ) → from ≡ min n (p + 1)
     → first_some f (cyclic_order n (Some p))
     ≡ option_or (first_some f (range_with_len from (n - from)))
     (first_some f (range_with_len 0 (from - 0)))
@@ -61,7 +61,7 @@ cyclic-after f n p from is =
     ]
 
 -- from the first part on, where none was dispatched
-pub cyclic-none : {Y : Type 0} (f : ℕ → Option Y) (n : ℕ) → first_some f (cyclic_order n None)
+cyclic-none : {Y : Type 0} (f : ℕ → Option Y) (n : ℕ) → first_some f (cyclic_order n None)
     ≡ option_or (first_some f (range_with_len 0 (n - 0))) (first_some f (range_with_len 0 (0 - 0)))
 cyclic-none f n = or-none (first_some f (range_with_len 0 n))
     ∙ ap (λ k. option_or (first_some f (range_with_len 0 k)) None) whole

@@ -44,7 +44,7 @@ pub record PutsPart (old new : State) (p : ℕ) (part : PartState) : Type 0 wher
   pub last : new.last ≡ old.last
 
 -- an event by which no job begins or ends, and which says nothing of the other parts
-pub knows-part : (given : Given) (h : List Event) (v : Event) (old new : State) (p : ℕ)
+knows-part : (given : Given) (h : List Event) (v : Event) (old new : State) (p : ℕ)
     (part : PartState) → Knows given h old → MayCome given v h → PutsPart old new p part
     → p < length given.logs → PartKeeps given (v ∷ h) p part
     → ((q : ℕ) → (p == q) ≡ false → SamePart given q h (v ∷ h))
@@ -130,7 +130,7 @@ knows-assigned given h old new p stored part window knows may below puts epoch h
 abbrev pub sized : ℕ → HeldPart → HeldPart
 sized size held = record { window = held.window; next = held.next; size = Some size }
 
-abbrev pub with_size : ℕ → PartState → PartState
+abbrev with_size : ℕ → PartState → PartState
 with_size size part = record { epoch = part.epoch; held = option_map (sized size) part.held }
 
 held-sized : (size : ℕ) (o : Option HeldPart) → is_some (option_map (sized size) o) ≡ is_some o

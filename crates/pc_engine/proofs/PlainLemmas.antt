@@ -9,14 +9,8 @@ use Rattle.pc_model.specs.declared.event.Event.{Event}
 use Rattle.pc_model.specs.declared.event.Event.TheVariants.{Failure}
 use Rattle.pc_model.specs.declared.outcome.Outcome.TheVariants.{Bad}
 use Rattle.pc_model.specs.declared.outcome.Rules.{Rules}
-use Rattle.pc_model.specs.declared.setup.Settings.{Settings}
 use Rattle.pc_model.specs.declared.setup.Setup.{Setup}
-use Rattle.pc_model.specs.declared.setup.SetupField.{SetupField}
-use Rattle.pc_model.specs.declared.setup.SetupField.TheVariants.{GiveUp, MapLimit, PressPercent}
-use Rattle.pc_model.specs.declared.setup.SetupFault.{SetupFault}
-use Rattle.pc_model.specs.declared.setup.SetupFault.TheVariants.{OutOfRange}
-use Rattle.pc_model.specs.Defaults.{settings_of}
-use Rattle.pc_model.specs.Ranges.{range_fault, settings_fault}
+use Rattle.pc_model.proofs.SetupLaws.{setup-within}
 use Rattle.pc_model.specs.Record.{Record}
 use Rattle.pc_model.specs.Given.{Given, record_at, records_of}
 use Rattle.pc_model.specs.Jobs.{Job, job_of, open_jobs}
@@ -36,36 +30,32 @@ use Rattle.pc_engine.specs.State.{is_out}
 
 -- ---- nothing fails
 
-outcome-good : (rules : Rules) (p : ℕ) (r : Record) (attempt code : ℕ) → rules.fails ≡ []
+outcome-good : (rules : Rules) → rules.fails ≡ [] → (p : ℕ) (r : Record) (attempt code : ℕ)
     → outcome_of rules p r attempt ≡ Bad code → ⊥
-outcome-good rules p r attempt code none is = let good = rw none at is in cc good
+outcome-good rules none p r attempt code is = let good = rw none at is in cc good
 
-job-good : (given : Given) (j : Job) (code : ℕ) → given.setup.rules.fails ≡ []
-    → job_outcome given j ≡ Some (Bad code) → ⊥
-job-good given j code none is = elim (option_cases (record_at given j.part j.offset)) [
-  | inl lost ↦ let nothing = rw lost at is in cc nothing
-  | inr some ↦
-      let found : Some (outcome_of given.setup.rules j.part some.0 j.attempt) ≡ Some (Bad code) =
-      rw some.1 at is in
-      outcome-good given.setup.rules j.part some.0 j.attempt code none cc
-]
-
-never-bad : (given : Given) (h : List Event) (t code : ℕ) → given.setup.rules.fails ≡ []
+never-bad : (given : Given) (h : List Event) (t code : ℕ) → given.setup.settings.rules.fails ≡ []
     → ticket_outcome given h t ≡ Some (Bad code) → ⊥
 unfolding ticket_outcome
 never-bad given h t code none is = elim (option_cases (job_of h t)) [
   | inl lost ↦ let nothing = rw lost at is in cc nothing
-  | inr some ↦ job-good given some.0 code none (rw some.1 at is)
+  | inr some ↦ elim (option_cases (record_at given some.0.part some.0.offset)) [
+    | inl lost ↦ let nothing = rw (some.1, lost) at is in cc nothing
+    | inr found ↦
+        let bad : Some (outcome_of given.setup.settings.rules some.0.part found.0 some.0.attempt) ≡ Some (Bad code) =
+        rw (some.1, found.1) at is in
+        outcome-good given.setup.settings.rules none some.0.part found.0 some.0.attempt code cc
+  ]
 ]
 
-pub failures-none : (given : Given) (h : List Event) → given.setup.rules.fails ≡ []
+pub failures-none : (given : Given) (h : List Event) → given.setup.settings.rules.fails ≡ []
     → IsLegal given h → (p e o : ℕ) → failures_in h p e o ≡ 0
 failures-none given [] none legal p e o = refl
 failures-none given (Failure t code ready ∷ h) none legal p e o =
     absurd (never-bad given h t code none legal.0.outcome)
 failures-none given (v ∷ h) none legal p e o = failures-none given h none legal.2 p e o
 
-pub ready-none : (given : Given) (h : List Event) → given.setup.rules.fails ≡ []
+pub ready-none : (given : Given) (h : List Event) → given.setup.settings.rules.fails ≡ []
     → IsLegal given h → (p e o : ℕ) → ready_in h p e o ≡ 0
 ready-none given [] none legal p e o = refl
 ready-none given (Failure t code ready ∷ h) none legal p e o =
@@ -74,33 +64,8 @@ ready-none given (v ∷ h) none legal p e o = ready-none given h none legal.2 p 
 
 -- ---- a record has an attempt left
 
-or-parts : (a b : Option SetupFault) → is_none (option_or a b) ≡ true → (a ≡ None) ×
-    (is_none b ≡ true)
-or-parts None b is = (refl, is)
-or-parts (Some f) b is = cc
-
-none-least : (field : SetupField) (a b : Bool) (least most : ℕ)
-    → ◌≡◌ {A = Option SetupFault} (cond (a && b) None (Some (OutOfRange field least most))) None
-    → a ≡ true
-none-least field true b least most is = refl
-none-least field false b least most is = cc
-
-setting-true : (b : Bool) → IsTrue b → b ≡ true
-setting-true true is = refl
-setting-true false is = cc
-
-give-up-some : (s : Settings) → is_none (settings_fault s) ≡ true → 1 ≤ s.give_up
-unfolding settings_fault
-give-up-some s is =
-    let numbers = or-parts _ _ is in
-    let first = or-parts (range_fault MapLimit 0 4096 s.map_limit) _ (ap is_none numbers.0) in
-    let second = or-parts (range_fault PressPercent 1 100 s.press_percent) _ first.1 in
-    let third = or-parts (range_fault GiveUp 1 1000000 s.give_up) _ second.1 in
-    leb-true 1 s.give_up
-    (none-least GiveUp (nat_le 1 s.give_up) (nat_le s.give_up 1000000) 1 1000000 third.0)
-
-pub tries : (setup : Setup) → 1 ≤ setup.give_up
-tries setup = give-up-some (settings_of setup) (setting-true _ setup.in_range)
+pub tries : (setup : Setup) → 1 ≤ setup.settings.give_up
+tries setup = (setup-within setup).give_up.least
 
 -- ---- a record's key is busy exactly where a job is out at its offset
 
@@ -114,7 +79,7 @@ find-at o r (q ∷ qs) (inr i) at = elim (cases_Bool (q.offset == o)) [
   | inr later ↦ rw later (find-at o r qs i at)
 ]
 
-has_key-is : (given : Given) (p o : ℕ) (j : Job) → given.setup.order ≡ NoOrder
+has_key-is : (given : Given) (p o : ℕ) (j : Job) → given.setup.settings.order ≡ NoOrder
     → has_key given (OfRecord p o) j ≡ true → (p ≡ j.part) × (o ≡ j.offset)
 has_key-is given p o j order has = elim (option_cases (record_at given j.part j.offset)) [
   | inl none ↦ let nothing = rw none at has in cc nothing
@@ -128,7 +93,7 @@ has_key-is given p o j order has = elim (option_cases (record_at given j.part j.
       )
 ]
 
-has_key-at : (given : Given) (p o : ℕ) (r : Record) (j : Job) → given.setup.order ≡ NoOrder
+has_key-at : (given : Given) (p o : ℕ) (r : Record) (j : Job) → given.setup.settings.order ≡ NoOrder
     → In r (records_of given p) → r.offset ≡ o → j.part ≡ p → j.offset ≡ o
     → has_key given (OfRecord p o) j ≡ true
 has_key-at given p o r j order i at part offset =
@@ -137,7 +102,7 @@ has_key-at given p o r j order i at part offset =
     let same : (o == f.0.offset) ≡ true = eq-eqb o f.0.offset (sym (eqb-true f.0.offset o is.1)) in
     rw (part, offset, f.1, order) (and-both (p == p) (o == f.0.offset) (same_number p) same)
 
-module _ (given : Given) (h : List Event) (p : ℕ) (r : Record) (order : given.setup.order ≡ NoOrder)
+module _ (given : Given) (h : List Event) (p : ℕ) (r : Record) (order : given.setup.settings.order ≡ NoOrder)
     (held : is_held h p ≡ true) (i : In r (records_of given p)) where
   busy-at : (j : Job) → (is_current h j && has_key given (OfRecord p r.offset) j)
       ≡ is_job_at (Some j) p (epoch_of h p) r.offset
@@ -167,8 +132,8 @@ module _ (given : Given) (h : List Event) (p : ℕ) (r : Record) (order : given.
   unfolding is_busy is_out
   key-busy = list_any-same _ _ busy-at (open_jobs h)
 
-  pub busy-out : is_busy given h (ordering_key given.setup.order p r) ≡ is_out h p r.offset
+  pub busy-out : is_busy given h (ordering_key given.setup.settings.order p r) ≡ is_out h p r.offset
   busy-out = ap (λ (key : OrderingKey). is_busy given h key) own-key ∙ key-busy
     where
-      own-key : ordering_key given.setup.order p r ≡ OfRecord p r.offset
+      own-key : ordering_key given.setup.settings.order p r ≡ OfRecord p r.offset
       own-key = rw order refl

@@ -44,7 +44,7 @@ use Rattle.pc_engine.proofs.StateLemmas.{each-set, entries-held, entries-same, i
 -- ---- the records that a poll takes
 
 -- no job is out at a record that was not polled
-pub unpolled-not_out : (given : Given) (h : List Event) (p : ℕ) → IsLegal given h
+unpolled-not_out : (given : Given) (h : List Event) (p : ℕ) → IsLegal given h
     → is_held h p ≡ true → (r : Record) → In r (unpolled_records given h p)
     → is_out h p r.offset ≡ false
 unfolding is_out polled_records unpolled_records
@@ -144,7 +144,7 @@ module _ (given : Given) (h : List Event) (p count last : ℕ) (legal : IsLegal 
       not-not true b is = rw is refl
       not-not false b is = rw is refl
 
-  pub entries-poll : (records : List (ℕ × Option (Bor (List ℕ))))
+  entries-poll : (records : List (ℕ × Option (Bor (List ℕ))))
       → plain_next records ≡ map offset_and_key next
       → entries_of given h p ++ new_entries (filter (λ r. is_open_in w r.0) records)
       ≡ entries_of given (Poll p count last ∷ h) p

@@ -64,7 +64,7 @@ first-left given h p next rs rest r left was is = rw left (first (not_below next
     first (x ∷ xs) is = let same : r ≡ x = cc in ap (λ (y : Record). Some y.offset) same
 
 -- no log has more records than all together
-pub log-total : (logs : List (Option (List Record))) (p : ℕ)
+log-total : (logs : List (Option (List Record))) (p : ℕ)
     → length (unwrap_or (option_flatten (slice_get logs p)) []) ≤ record_total logs
 log-total [] p = omega arith
 log-total (log ∷ logs) zero = omega (arith, sum_by-cons (λ (l : Option (List Record)). length (unwrap_or l [])) log logs)
@@ -76,7 +76,7 @@ pub knows-start : (given : Given) (s : State) → given.setup ≡ s.setup.now �
     → IsPlain given → list_all (λ log. rises_from 0 (unwrap_or log [])) s.logs.now ≡ true
     → length s.logs.now ≤ 1024 → record_total s.logs.now ≤ 1000000
     → s.parts.items ≡ replicate (length s.logs.now) (record { epoch = 0; held = None })
-    → s.shards.order ≡ s.setup.now.order → ((p : ℕ) → of_part s.shards p ≡ [])
+    → s.shards.order ≡ s.setup.now.settings.order → ((p : ℕ) → of_part s.shards p ≡ [])
     → ((h : List Event) → open_jobs h ≡ [] → AreOpen h s.jobs) → s.dispatched ≡ 0 → s.last ≡ None
     → Knows given [] s
 unfolding entries_of
@@ -95,7 +95,7 @@ knows-start given s setup logs plain rise few total items order empty jobs dispa
       ∙ get_or-replicate (length s.logs.now) p (record { epoch = 0; held = None }) d
       (omega (arith, below, ap length logs))))
       (record { epoch = refl; held = refl; knows = tt });
-  order = order ∙ ap (λ (x : Setup). x.order) (sym setup);
+  order = order ∙ ap (λ (x : Setup). x.settings.order) (sym setup);
   entries = λ p. empty p;
   jobs = jobs [] refl;
   dispatched = dispatched;
@@ -138,7 +138,7 @@ legal-logs given [] legal = legal
 legal-logs given (v ∷ h) legal = legal-logs given h legal.2
 
 -- those up to the high, or all where nothing presses
-pub pollable-upto : (given : Given) (h : List Event) (p next : ℕ) → IsLegal given h
+pollable-upto : (given : Given) (h : List Event) (p next : ℕ) → IsLegal given h
     → is_held h p ≡ true → unpolled_records given h p ≡ not_below next (records_of given p)
     → upto (unwrap_or (if is_blocked given h p then high_of given h p else None) (2 ^ 64 - 1))
     (not_below next (records_of given p)) ≡ pollable_records given h p

@@ -63,17 +63,17 @@ module _ (given : Given) (h : List Event) (p : ℕ) (plain : IsPlain given) (leg
       → is_eligible_record given h p r ≡ (is_ready r && may_press r.offset)
   unfolding is_eligible_record
   eligible-is r i = shuffle (is_complete h p r.offset) (is_out h p r.offset)
-      (is_busy given h (ordering_key given.setup.order p r)) (is_first given h p r)
-      (nat_lt (failures_of h p r.offset) given.setup.give_up)
+      (is_busy given h (ordering_key given.setup.settings.order p r)) (is_first given h p r)
+      (nat_lt (failures_of h p r.offset) given.setup.settings.give_up)
       (nat_le (ready_of h p r.offset) (now_of h)) (may_press r.offset)
       (busy-out given h p r plain.order held (polled-record given h p r i).0)
       (rw (failures-none given h plain.fails legal p (epoch_of h p) r.offset)
-      (lt-ltb 0 given.setup.give_up (tries given.setup)))
+      (lt-ltb 0 given.setup.settings.give_up (tries given.setup)))
       (rw (ready-none given h plain.fails legal p (epoch_of h p) r.offset)
       (le-leb 0 (now_of h) (omega arith)))
 
   eligible-ready : eligible_offsets given h p
-      ≡ filter may_press (ready_offsets given.setup.order p (entries_of given h p))
+      ≡ filter may_press (ready_offsets given.setup.settings.order p (entries_of given h p))
   unfolding eligible_offsets
   eligible-ready = rw held (
       ap (λ (rs : List Record). map (λ (r : Record). r.offset) rs)
@@ -84,7 +84,7 @@ module _ (given : Given) (h : List Event) (p : ℕ) (plain : IsPlain given) (leg
       ∙ map-filter may_press (filter is_ready (polled_records given h p))
       ∙ ap (λ (os : List ℕ). filter may_press os)
       (sym (ready_offsets-records given h p (λ r. is_out h p r.offset))
-      ∙ ap (λ (es : List Entry). ready_offsets given.setup.order p es)
+      ∙ ap (λ (es : List Entry). ready_offsets given.setup.settings.order p es)
       (sym (entries-held given h p held)))
       )
 
@@ -128,12 +128,12 @@ module _ (given : Given) (h : List Event) (p o : ℕ) (plain : IsPlain given)
     (legal : IsLegal given h)
     (held : is_held h p ≡ true) (high : Option ℕ)
     (is : high ≡ cond (is_blocked given h p) (high_of given h p) None)
-    (least : least_of (ready_offsets given.setup.order p (entries_of given h p)) ≡ Some o) where
+    (least : least_of (ready_offsets given.setup.settings.order p (entries_of given h p)) ≡ Some o) where
   least-held : least_of (eligible_offsets given h p)
       ≡ option_map_or (λ g. cond (nat_lt o g) (Some o) None) high (Some o)
   least-held = ap least_of (eligible-ready given h p plain legal held)
       ∙ least-pressed (is_blocked given h p) (high_of given h p) high o
-      (ready_offsets given.setup.order p (entries_of given h p)) is
+      (ready_offsets given.setup.settings.order p (entries_of given h p)) is
       ((is_kept given h legal).high p held) least
 
 -- the least offset of a part that may be dispatched, by the least that is ready and the high of a
@@ -144,7 +144,7 @@ pub least-eligible : (given : Given) (h : List Event) (s : State) (p o : ℕ) (h
     → least_of (eligible_offsets given h p)
     ≡ option_map_or (λ g. cond (nat_lt o g) (Some o) None) high (Some o)
 least-eligible given h s p o high knows ready is =
-    let least : least_ready_of given.setup.order p (entries_of given h p) ≡ Some o =
+    let least : least_ready_of given.setup.settings.order p (entries_of given h p) ≡ Some o =
     rw (knows.order, knows.entries p) at (sym ready) in
     elim (cases_Bool (is_held h p)) [
       | inl held ↦ least-held given h p o knows.plain knows.legal held high (is held) least
@@ -166,7 +166,7 @@ pub none-eligible : (given : Given) (h : List Event) (s : State) (p : ℕ) → K
     → None ≡ least_ready_of s.shards.order p (of_part s.shards p)
     → least_of (eligible_offsets given h p) ≡ None
 none-eligible given h s p knows ready =
-    let least : least_ready_of given.setup.order p (entries_of given h p) ≡ None =
+    let least : least_ready_of given.setup.settings.order p (entries_of given h p) ≡ None =
     rw (knows.order, knows.entries p) at (sym ready) in
     elim (cases_Bool (is_held h p)) [
       | inl held ↦ ap least_of (eligible-ready given h p knows.plain knows.legal held)

@@ -105,7 +105,7 @@ jobs-fall given (Dispatch t w p o e a ∷ h) legal =
 jobs-fall given (v ∷ h) legal = jobs-fall given h legal.2
 
 -- the tickets count from 1
-pub ticket-range : (given : Given) (h : List Event) → IsLegal given h → (j : Job)
+ticket-range : (given : Given) (h : List Event) → IsLegal given h → (j : Job)
     → In j (jobs_of h) → (1 ≤ j.ticket) × (j.ticket ≤ dispatch_count h)
 ticket-range given h legal j i = ticket-within j (jobs_of h) (jobs-fall given h legal) i
 
@@ -120,7 +120,7 @@ pub job_of-above : (given : Given) (h : List Event) → IsLegal given h → (t :
 job_of-above given h legal t above = find-above t (jobs_of h) (jobs-fall given h legal) above
 
 -- a ticket that is out has a job
-pub out-some : (h : List Event) (t : ℕ) → is_outstanding h t ≡ true
+out-some : (h : List Event) (t : ℕ) → is_outstanding h t ≡ true
     → (j : Job) × (job_of h t ≡ Some j) × In j (jobs_of h) × (j.ticket ≡ t)
 out-some h t out = elim (option_cases (job_of h t)) [
   | inl none ↦ let nothing = rw none at out in cc nothing
@@ -159,7 +159,7 @@ unsettled-above given (v ∷ h) legal t above = unsettled-above given h legal.2 
 -- ---- the jobs that are out
 
 -- the job of a ticket that is out is one of them
-pub open_jobs-find : (h : List Event) (t : ℕ) (j : Job) → is_outstanding h t ≡ true
+open_jobs-find : (h : List Event) (t : ℕ) (j : Job) → is_outstanding h t ≡ true
     → job_of h t ≡ Some j → In j (open_jobs h) × (j.ticket ≡ t)
 open_jobs-find h t j out found =
     let at = job-of h t j found in (
@@ -169,7 +169,7 @@ open_jobs-find h t j out found =
     )
 
 -- and each of them is that of a ticket that is out
-pub open_jobs-out : (given : Given) (h : List Event) → IsLegal given h → (j : Job)
+open_jobs-out : (given : Given) (h : List Event) → IsLegal given h → (j : Job)
     → In j (open_jobs h) → (is_outstanding h j.ticket ≡ true) × (job_of h j.ticket ≡ Some j)
 open_jobs-out given h legal j i =
     let at = In-filtered (λ (x : Job). not (is_settled h x.ticket)) j (jobs_of h) i in
@@ -180,7 +180,7 @@ open_jobs-out given h legal j i =
 -- a result of a ticket that is out takes one of them
 module _ (given : Given) (h : List Event) (legal : IsLegal given h) (t : ℕ)
     (out : is_outstanding h t ≡ true) where
-  pub open_jobs-less : (v : Event) → jobs_of (v ∷ h) ≡ jobs_of h
+  open_jobs-less : (v : Event) → jobs_of (v ∷ h) ≡ jobs_of h
       → ((u : ℕ) → settles v u ≡ (t == u))
       → length (open_jobs (v ∷ h)) + 1 ≡ length (open_jobs h)
   open_jobs-less v same settled =
@@ -197,7 +197,7 @@ module _ (given : Given) (h : List Event) (legal : IsLegal given h) (t : ℕ)
       → length (open_jobs (Success t answer ∷ h)) + 1 ≡ length (open_jobs h)
   open_jobs-success answer = open_jobs-less (Success t answer) refl (λ u. refl)
 
-  pub open_jobs-failure : (code ready : ℕ)
+  open_jobs-failure : (code ready : ℕ)
       → length (open_jobs (Failure t code ready ∷ h)) + 1 ≡ length (open_jobs h)
   open_jobs-failure code ready = open_jobs-less (Failure t code ready) refl (λ u. refl)
 

@@ -2,6 +2,7 @@
 -- values.
 use Rattle.std.specs.Prelude.{ℕ, ◌+◌, ◌-◌, ◌≡◌, pos, Bool, true, false, not, ◌&&◌, ◌||◌, ◌==◌, nat_lt, if◌then◌else◌, bytes_eq, List, [], ◌∷◌, ◌++◌, length, take, filter, Option, Some, None, option_map, unwrap_or, slice_get, Result, Ok, Err}
 use Rattle.std.specs.Option.{option_map_or}
+use Rattle.pc_model.specs.declared.limits.TheConstants.{MAX_EVENTS}
 use Rattle.pc_model.specs.declared.commit.Commit.{Commit}
 use Rattle.pc_model.specs.declared.commit.SizedCommit.{SizedCommit}
 use Rattle.pc_model.specs.declared.event.Event.{Event}
@@ -49,9 +50,9 @@ abbrev pub Does : {A : Type 0} → Result A EngineFault → Step A → List Even
 Does (Err NoMemory) step before after = after ≡ before
 Does result step before after = (result ≡ step.answer) × (after ≡ step.events ++ before)
 
--- whether so many more events, with those kept for the jobs that are out, pass 4,000,000
+-- whether so many more events, with those kept for the jobs that are out, pass the limit
 abbrev pub is_full : List Event → ℕ → Bool
-is_full h more = nat_lt 4000000 (length h + length (open_jobs h) + more)
+is_full h more = nat_lt MAX_EVENTS (length h + length (open_jobs h) + more)
 
 -- a check that refuses with the fault, if there is one
 abbrev pub refused_by : Option EngineFault → Result (Unit {0}) EngineFault
@@ -82,7 +83,7 @@ abbrev pub assign_after : Given → List Event → ℕ → Result Commit ClientF
 assign_after given h p outcome (Some fault) = refuses fault
 assign_after given h p (Err failed) None = refuses (engine_fault_of failed)
 assign_after given h p (Ok stored) None = assign_with h p stored
-    (map_refusal given.setup.bad_map stored)
+    (map_refusal given.setup.settings.bad_map stored)
 
 abbrev pub assign_step : Given → List Event → ℕ → Result Commit ClientFault → Step (Unit {0})
 assign_step given h p outcome = assign_after given h p outcome (assign_refusal given h p)
@@ -186,7 +187,7 @@ job_to_do given h worker p o = record {
   epoch = epoch_of h p;
   attempt = failures_of h p o + 1;
   entry = unwrap_or (record_at given p o) no_record;
-  rules = given.setup.rules;
+  rules = given.setup.settings.rules;
 }
 
 -- the dispatch of the next record, if there is one
@@ -284,7 +285,7 @@ pub record IsExpected (given : Given) (h : List Event) (job : PlainJob) : Type 0
     attempt = job.attempt;
   })
   pub entry : record_at given job.part job.entry.offset ≡ Some job.entry
-  pub rules : job.rules ≡ given.setup.rules
+  pub rules : job.rules ≡ given.setup.settings.rules
 
 -- what a settled result is, and the event that it adds
 pub record SettledStep : Type 0 where
@@ -296,7 +297,7 @@ abbrev pub settle_current : Given → List Event → PlainJob → Outcome → Se
 settle_current given h job (Good answer) =
     record { answer = Succeeded; events = Success job.ticket answer ∷ [] }
 settle_current given h job (Bad code) =
-    let ready = ready_after given.setup.delays job.attempt (now_of h) in
+    let ready = ready_after given.setup.settings.delays job.attempt (now_of h) in
     record { answer = Failed ready; events = Failure job.ticket code ready ∷ [] }
 
 -- a result that is expected

@@ -1,6 +1,7 @@
 -- What the engine keeps beside its journal: the parts, the shards, and the jobs that are out.
 use Rattle.std.specs.Prelude.{ℕ, ◌+◌, ◌≡◌, ◌≤◌, ◌<◌, Bool, if◌then◌else◌, List, [], ◌∷◌, length, Option, Some, None, is_some, ⊤, slice_index_or}
 use Rattle.std.specs.List.{list_any}
+use Rattle.pc_model.specs.declared.limits.TheConstants.{MAX_EVENTS, MAX_PARTS, MAX_RECORDS}
 use Rattle.pc_model.specs.declared.choices.Order.TheVariants.{None as NoOrder}
 use Rattle.pc_model.specs.declared.event.Event.{Event}
 use Rattle.pc_model.specs.Given.{Given, records_of}
@@ -21,8 +22,8 @@ use Rattle.pc_engine.specs.OpenJobs.{AreOpen}
 
 -- each record is an ordering key of its own, and none fails
 pub record IsPlain (given : Given) : Type 0 where
-  pub order : given.setup.order ≡ NoOrder
-  pub fails : given.setup.rules.fails ≡ []
+  pub order : given.setup.settings.order ≡ NoOrder
+  pub fails : given.setup.settings.rules.fails ≡ []
 
 -- whether a job of the part's present epoch is out at the offset
 unfoldable pub is_out : List Event → ℕ → ℕ → Bool
@@ -54,13 +55,13 @@ pub record Knows (given : Given) (h : List Event) (s : State) : Type 0 where
   pub logs : given.logs ≡ s.logs.now
   pub plain : IsPlain given
   pub legal : IsLegal given h
-  pub limit : length h + length (open_jobs h) ≤ 4000000
+  pub limit : length h + length (open_jobs h) ≤ MAX_EVENTS
   pub count : length s.parts.items ≡ length given.logs
-  pub few : length given.logs ≤ 1024
-  pub few_records : (p : ℕ) → length (records_of given p) ≤ 1000000
+  pub few : length given.logs ≤ MAX_PARTS
+  pub few_records : (p : ℕ) → length (records_of given p) ≤ MAX_RECORDS
   pub each : (p : ℕ) (d : PartState) → p < length given.logs
       → PartKeeps given h p (slice_index_or s.parts.items p d)
-  pub order : s.shards.order ≡ given.setup.order
+  pub order : s.shards.order ≡ given.setup.settings.order
   pub entries : (p : ℕ) → of_part s.shards p ≡ entries_of given h p
   pub jobs : AreOpen h s.jobs
   pub dispatched : s.dispatched ≡ dispatch_count h
@@ -69,7 +70,7 @@ pub record Knows (given : Given) (h : List Event) (s : State) : Type 0 where
 -- the event may come, and there is a place for it and for the results of the jobs that are out
 pub record MayCome (given : Given) (event : Event) (h : List Event) : Type 0 where
   pub legal : IsLegal given (event ∷ h)
-  pub limit : length (event ∷ h) + length (open_jobs (event ∷ h)) ≤ 4000000
+  pub limit : length (event ∷ h) + length (open_jobs (event ∷ h)) ≤ MAX_EVENTS
 
 -- each part's epoch is over, and none is held
 pub record AreReleased (old new : List PartState) : Type 0 where

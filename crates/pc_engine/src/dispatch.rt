@@ -107,7 +107,7 @@ impl<'a> State<'a> {
             epoch,
             attempt,
             entry,
-            rules: &self.setup.rules,
+            rules: &self.setup.settings.rules,
         })
     }
 }

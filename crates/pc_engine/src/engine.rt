@@ -13,6 +13,7 @@ use crate::settled::Settled;
 use crate::state::State;
 use pc_broker_log::BrokerLogs;
 use pc_commit::{commit_of, resume};
+use pc_model::limits::{MAX_EVENTS, MAX_RECORDS};
 use pc_model::{Commit as StoredCommit, Event, Journal, Outcome, Setup, SizedCommit};
 use pc_offset_client::{Client, ClientFault};
 use pc_partition::PartitionState;
@@ -20,9 +21,6 @@ use pc_task::{Finished, Job};
 use pc_world::Link;
 use std::alloc::{AllocError, Global};
 use std::marker::Model;
-
-/// The most events that a journal may have, with those kept for the jobs that are out.
-const EVENTS_MAX: u64 = 4_000_000;
 
 /// What a commit stored.
 #[derive(Clone, Copy, Debug, PartialEq, Eq)]
@@ -98,8 +96,8 @@ impl<'a, L: Link> Engine<'a, L> {
         logs: &'a BrokerLogs<'a>,
         link: L,
     ) -> Result<Engine<'a, L>, L>
-        requires order { setup.now.order ≡ NoOrder }
-        requires fails { setup.now.rules.fails ≡ [] }
+        requires order { setup.now.settings.order ≡ NoOrder }
+        requires fails { setup.now.settings.rules.fails ≡ [] }
         ensures given { IfOk result
             (λ e. e.given ≡ given_by setup.now logs.now [] (L.is_told link)
             (kept_for (L.store link))) }
@@ -127,7 +125,7 @@ impl<'a, L: Link> Engine<'a, L> {
     pub fn journal(&self) -> &Journal
         ensures value { result.now ≡ self.now.journal }
         ensures limit { length self.now.journal.events
-            + length (open_jobs self.now.journal.events) ≤ EVENTS_MAX }
+            + length (open_jobs self.now.journal.events) ≤ MAX_EVENTS }
     {
         &self.journal
     }
@@ -228,7 +226,7 @@ impl<'a, L: Link> Engine<'a, L> {
     /// `JournalFull` or `NoMemory`.
     pub fn poll(&mut self, part: u32, max: u32) -> Result<u32, EngineFault>
         requires some { 0 < max }
-        requires few { max ≤ 1_000_000 }
+        requires few { max ≤ MAX_RECORDS }
         ensures effect { Does result
             (poll_step self.old.given self.old.journal.events part max)
             self.old.journal.events self.new.journal.events }
@@ -418,14 +416,14 @@ impl<'a, L: Link> Engine<'a, L> {
         requires small { stored.now.position < 2 ^ 63 }
         ensures state { IfOk result (λ state. StandsFor state.window stored.now.position 0
             (resumed_marks stored.now (records_of self.now.given part))) }
-        ensures read { OnOk result (map_refusal self.now.given.setup.bad_map stored.now ≡ None) }
+        ensures read { OnOk result (map_refusal self.now.given.setup.settings.bad_map stored.now ≡ None) }
         ensures fault { IfErr result (λ e. (e ≡ NoMemory) ⊎ ((f : MapFault) × (e ≡ BadMap f) ×
-            (map_refusal self.now.given.setup.bad_map stored.now ≡ Some f))) }
+            (map_refusal self.now.given.setup.settings.bad_map stored.now ≡ Some f))) }
     {
         let Some(log) = self.state.logs.log(part) else {
             unreachable!();
         };
-        Ok(resume(self.alloc, log, stored, self.state.setup.bad_map)?)
+        Ok(resume(self.alloc, log, stored, self.state.setup.settings.bad_map)?)
     }
 
     // The commit of a held part as it stands.
@@ -434,12 +432,16 @@ impl<'a, L: Link> Engine<'a, L> {
         requires known { has_log self.now.given part ≡ true }
         ensures commit { IfOk result (λ c. c ≡ commit_of self.now.given self.now.journal.events part) }
         ensures position { IfOk result (λ c. c.commit.position < 2 ^ 63) }
-        ensures map { IfOk result (λ c. length c.commit.map ≤ self.now.given.setup.map_limit) }
+        ensures map { IfOk result (λ c. length c.commit.map ≤ self.now.given.setup.settings.map_limit) }
     {
         let Some(held) = self.state.held(part) else {
             unreachable!();
         };
-        commit_of(self.alloc, &held.window, self.state.setup.map_limit)
+        commit_of(
+            self.alloc,
+            &held.window,
+            self.state.setup.settings.map_limit,
+        )
     }
 
     // What is known of a part with a log.
@@ -492,7 +494,7 @@ impl<'a, L: Link> Engine<'a, L> {
         ensures { result ≡ (if is_full self.now.journal.events more
             then Err EngineFault.JournalFull else Ok tt) }
     {
-        if self.journal.len() + self.state.outstanding() + more <= EVENTS_MAX {
+        if self.journal.len() + self.state.outstanding() + more <= MAX_EVENTS {
             Ok(())
         } else {
             Err(EngineFault::JournalFull)

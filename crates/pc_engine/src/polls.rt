@@ -26,6 +26,7 @@ use crate::state::State;
 use pc_broker_log::Polled;
 use pc_choice::pressed;
 use pc_model::Setup;
+use pc_model::limits::MAX_RECORDS;
 use pc_partition::PartitionState;
 use pc_shards::Shards;
 use std::alloc::{AllocError, Global};
@@ -37,10 +38,10 @@ impl HeldPart {
     /// Whether the last commit since the assignment takes more than its share of the limit.
     pub fn is_blocked(&self, setup: &Setup) -> bool
         ensures { result ≡ option_map_or (λ size.
-            is_pressed size setup.now.map_limit setup.now.press_percent) self.now.size false }
+            is_pressed size setup.now.settings.map_limit setup.now.settings.press_percent) self.now.size false }
     {
         match self.size {
-            Some(size) => pressed(size, setup.map_limit, setup.press_percent),
+            Some(size) => pressed(size, setup.settings.map_limit, setup.settings.press_percent),
             None => false,
         }
     }
@@ -119,7 +120,7 @@ impl<'a> State<'a> {
     ) -> Result<(), AllocError>
         requires next { (given : Given) × (h : List Event) × Knows given h self.old
             × (is_held h part ≡ true) × AreNextRecords given h part records.now }
-        requires few { length records.now ≤ 1_000_000 }
+        requires few { length records.now ≤ MAX_RECORDS }
         ensures polled { OnOk result ((given : Given) (h : List Event) (last : ℕ)
             → Knows given h self.old → is_held h part ≡ true
             → AreNextRecords given h part records.now

@@ -31,7 +31,7 @@ impl<'a> State<'a> {
             return false;
         }
         match self.logs.record(done.part, done.entry.offset) {
-            Some(entry) => done.is_of(&entry, &self.setup.rules),
+            Some(entry) => done.is_of(&entry, &self.setup.settings.rules),
             None => false,
         }
     }

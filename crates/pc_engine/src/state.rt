@@ -52,7 +52,7 @@ impl<'a> State<'a> {
             setup,
             logs,
             parts: part::unheld(alloc, logs.parts())?,
-            shards: Shards::new(alloc, setup.order),
+            shards: Shards::new(alloc, setup.settings.order),
             jobs: OpenJobs::new(alloc),
             dispatched: 0,
             last: None,

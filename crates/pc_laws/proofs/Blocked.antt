@@ -151,7 +151,7 @@ module _ (given : Given) (h : List Event) (legal : IsLegal given h) (p count las
   commit_of-poll : commit_of given (Poll p count last ∷ h) p ≡ commit_of given h p
   unfolding marks_of known_records polled_records unpolled_records is_complete
   commit_of-poll =
-      ap (λ (rs : List Record). commit_at given.setup.map_limit (begin_of h p)
+      ap (λ (rs : List Record). commit_at given.setup.settings.map_limit (begin_of h p)
       (marks_by (is_complete h p) rs))
       (ap (λ (n : ℕ). known_of n (map_end (assigned_commit h p)) (records_from_begin given h p))
       (polled_count-poll given h p count last)
@@ -161,7 +161,7 @@ module _ (given : Given) (h : List Event) (legal : IsLegal given h) (p count las
 -- ---- the commit of a blocked part
 
 -- the part's commit has the size of its last one, unless it had a success since
-abbrev pub KeepsSize : Given → List Event → ℕ → Type 0
+abbrev KeepsSize : Given → List Event → ℕ → Type 0
 KeepsSize given h p = (size : ℕ) → is_held h p ≡ true → last_size h p ≡ Some size →
     is_blocked given h p ≡ true
     → new_successes h p (epoch_of h p) ≡ 0 → (commit_of given h p).size ≡ size

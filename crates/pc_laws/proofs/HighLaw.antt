@@ -99,12 +99,12 @@ complete-success given h p t answer has = record {
 no-high-size : (given : Given) (h : List Event) (p : ℕ) → high_of given h p ≡ None
     → (commit_of given h p).size ≡ 0
 unfolding bits_at
-no-high-size given h p none = size-none given.setup.map_limit (begin_of h p) (marks_of given h p)
+no-high-size given h p none = size-none given.setup.settings.map_limit (begin_of h p) (marks_of given h p)
     (rw none refl)
 
 pressed-some : (given : Given) (h : List Event) (p position size : ℕ) (text : List ℕ)
     → CommitIsLawful given h p position text size
-    → is_pressed size given.setup.map_limit given.setup.press_percent ≡ true
+    → is_pressed size given.setup.settings.map_limit given.setup.settings.press_percent ≡ true
     → (g : ℕ) × (high_of given h p ≡ Some g)
 pressed-some given h p position size text lawful pressed =
     elim (option_cases (high_of given h p)) [
@@ -112,7 +112,7 @@ pressed-some given h p position size text lawful pressed =
       | inl none ↦
           let size_is : size ≡ 0 = sym (ap (λ (c : SizedCommit). c.size) lawful.commit_is)
           ∙ no-high-size given h p none in
-          let lt : given.setup.map_limit * given.setup.press_percent < 0 * 100 = ltb-true _ _
+          let lt : given.setup.settings.map_limit * given.setup.settings.press_percent < 0 * 100 = ltb-true _ _
           (rw size_is at pressed) in
           absurd (omega arith)
     ]

@@ -190,8 +190,8 @@ find-some o r (q ∷ qs) (inr i) at = elim (cases_Bool (q.offset == o)) [
 at-one-offset : (given : Given) (i j : Job) → i.part ≡ j.part → i.offset ≡ j.offset →
     job_key given i ≡ job_key given j
 at-one-offset given i j part offset =
-    ap (λ (p : ℕ). option_map (ordering_key given.setup.order p) (record_at given p i.offset)) part
-    ∙ ap (λ (o : ℕ). option_map (ordering_key given.setup.order j.part) (record_at given j.part o))
+    ap (λ (p : ℕ). option_map (ordering_key given.setup.settings.order p) (record_at given p i.offset)) part
+    ∙ ap (λ (o : ℕ). option_map (ordering_key given.setup.settings.order j.part) (record_at given j.part o))
     offset
 
 has-own-key : (given : Given) (j : Job) (k : OrderingKey) → job_key given j ≡ Some k →
@@ -205,7 +205,7 @@ unfolding polled_records
 working-key given h j w =
     let log = polled-record given h j.part w.polled.0 w.polled.1 in
     let found = find-some j.offset w.polled.0 (records_of given j.part) log.0 w.polled.2 in
-    (ordering_key given.setup.order j.part found.0, rw found.1 refl)
+    (ordering_key given.setup.settings.order j.part found.0, rw found.1 refl)
 
 -- two current jobs that are out at one offset have one ticket
 module _ (given : Given) (h : List Event) (keeps : KeepsJobs given h) (i j : Job)
@@ -368,19 +368,19 @@ dispatch-key : (given : Given) (h : List Event) (p o : ℕ) (r : Record) (key : 
     IsLegal given h
     → In r (polled_records given h p) → r.offset ≡ o
     → option_map_or (same_key key)
-    (option_map (ordering_key given.setup.order p) (record_at given p o)) false ≡ true
-    → key ≡ ordering_key given.setup.order p r
+    (option_map (ordering_key given.setup.settings.order p) (record_at given p o)) false ≡ true
+    → key ≡ ordering_key given.setup.settings.order p r
 dispatch-key given h p o r key legal polled offset has = elim (option_cases (record_at given p o)) [
   | inl none ↦ let nothing = rw none at has in cc nothing
   | inr some ↦
-      let test : same_key key (ordering_key given.setup.order p some.0) ≡ true = rw some.1 at has in
+      let test : same_key key (ordering_key given.setup.settings.order p some.0) ≡ true = rw some.1 at has in
       let here = In-find (λ x. x.offset == o) some.0 (records_of given p) some.1 in
       let log = polled-record given h p r polled in
       let is : some.0 ≡ r = Rises-same 0 some.0 r (records_of given p)
       (legal-rises given h legal p) here.0 log.0
       (eqb-true some.0.offset o here.1 ∙ sym offset) in
-      same_key-true key (ordering_key given.setup.order p some.0) test ∙ ap
-      (ordering_key given.setup.order p) is
+      same_key-true key (ordering_key given.setup.settings.order p some.0) test ∙ ap
+      (ordering_key given.setup.settings.order p) is
 ]
 
 module _ (given : Given) (h : List Event) (keeps : KeepsJobs given h) (legal : IsLegal given h)
@@ -427,12 +427,12 @@ module _ (given : Given) (h : List Event) (keeps : KeepsJobs given h) (legal : I
   unfolding new is_busy
   not-shared j key i current has shares =
       let is = dispatch-key given h p o next.1.0 key legal next.1.1 next.1.2 has in
-      let free : is_busy given h (ordering_key given.setup.order p next.1.0) ≡ false =
+      let free : is_busy given h (ordering_key given.setup.settings.order p next.1.0) ≡ false =
       eligible-free given h p next.1.0 next.1.3 in
-      let same : has_key given (ordering_key given.setup.order p next.1.0) j ≡ true = subst
+      let same : has_key given (ordering_key given.setup.settings.order p next.1.0) j ≡ true = subst
       (λ (k : OrderingKey). has_key given k j ≡ true) is shares in
       true-not-false _ (list_any-In
-      (λ x. is_current h x && has_key given (ordering_key given.setup.order p next.1.0) x) j
+      (λ x. is_current h x && has_key given (ordering_key given.setup.settings.order p next.1.0) x) j
       (open_jobs h) i
       (rw (current, same) refl)) free
 

@@ -47,7 +47,7 @@ below-front end n (r ∷ rs) rises = elim (cases_Bool (nat_lt r.offset end)) [
   }
 ]
 
-pub polled-front : (given : Given) (h : List Event) (p : ℕ) → IsFront (polled_records given h p)
+polled-front : (given : Given) (h : List Event) (p : ℕ) → IsFront (polled_records given h p)
     (records_from_begin given h p)
 unfolding polled_records
 polled-front given h p = record {
@@ -55,7 +55,7 @@ polled-front given h p = record {
   whole = take-append-drop (polled_count h p) (records_from_begin given h p);
 }
 
-pub known-front : (given : Given) (h : List Event) (p : ℕ) → IsLegal given h → IsFront
+known-front : (given : Given) (h : List Event) (p : ℕ) → IsLegal given h → IsFront
     (known_records given h p) (records_from_begin given h p)
 unfolding known_records polled_records unpolled_records
 known-front given h p legal =

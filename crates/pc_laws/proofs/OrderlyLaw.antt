@@ -19,7 +19,7 @@ use Rattle.pc_laws.proofs.Rising.{Rises, Rises-filter, Rises-same, legal-rises, 
 use Rattle.pc_laws.proofs.Passing.{option_cases}
 
 -- what is found first is found at one of the items
-pub first_some-In : {X Y : Type 0} (f : X → Option Y) (y : Y) (xs : List X) → first_some f xs
+first_some-In : {X Y : Type 0} (f : X → Option Y) (y : Y) (xs : List X) → first_some f xs
     ≡ Some y → (x : X) × In x xs × (f x ≡ Some y)
 first_some-In f y [] e = cc
 first_some-In f y (x ∷ xs) e = elim (option_cases (f x)) [
@@ -29,7 +29,7 @@ first_some-In f y (x ∷ xs) e = elim (option_cases (f x)) [
 ]
 
 -- the next record of a part is an eligible record of that part
-pub next_of_part-is : (given : Given) (h : List Event) (q p o : ℕ) → next_of_part given h q ≡ Some
+next_of_part-is : (given : Given) (h : List Event) (q p o : ℕ) → next_of_part given h q ≡ Some
     (p, o)
     → (q ≡ p) × (least_of (eligible_offsets given h p) ≡ Some o)
 next_of_part-is given h q p o e = elim (option_cases (least_of (eligible_offsets given h q))) [
@@ -45,7 +45,7 @@ next_of_part-is given h q p o e = elim (option_cases (least_of (eligible_offsets
 ]
 
 -- an eligible offset is that of a polled record of a held part that may be dispatched
-pub eligible_offsets-In : (given : Given) (h : List Event) (p o : ℕ) → In o
+eligible_offsets-In : (given : Given) (h : List Event) (p o : ℕ) → In o
     (eligible_offsets given h p)
     → (is_held h p ≡ true) × ((r : Record) × In r (polled_records given h p) × (r.offset ≡ o) ×
     (is_eligible_record given h p r ≡ true))
@@ -79,12 +79,12 @@ next_record-In given h p o e =
 
 module _ (given : Given) (h : List Event) (p : ℕ) (r : Record)
     (eligible : is_eligible_record given h p r ≡ true) where
-  pub eligible-free : is_busy given h (ordering_key given.setup.order p r) ≡ false
+  pub eligible-free : is_busy given h (ordering_key given.setup.settings.order p r) ≡ false
   unfolding is_eligible_record
   eligible-free = not-true _
       (and-right _ _ (and-left _ _ (and-left _ _ (and-left _ _ (and-left _ _ eligible)))))
 
-  pub eligible-first : is_first given h p r ≡ true
+  eligible-first : is_first given h p r ≡ true
   unfolding is_eligible_record
   eligible-first = and-right _ _ (and-left _ _ (and-left _ _ (and-left _ _ eligible)))
 

@@ -88,7 +88,7 @@ best_map-none limit [] e = refl
 best_map-none limit (bit ∷ bits) e = limited-none limit (shortest_text (bit ∷ bits)) e
 
 -- the text of the best map reads as the bits or as no map
-pub map_bits-best : (position limit : ℕ) (bits : List Bool) → position + length bits < 2 ^ 63
+map_bits-best : (position limit : ℕ) (bits : List Bool) → position + length bits < 2 ^ 63
     → (map_bits (record { position = position; map = (best_map bits limit).text }) ≡ bits)
     ⊎ (map_bits (record { position = position; map = (best_map bits limit).text }) ≡ [])
 unfolding map_bits map_reading
@@ -105,7 +105,7 @@ unfolding map_bits map_reading best_map
 map_bits-nothing position limit = refl
 
 -- a bit of the map is a bit of what it was made of
-pub bit_in_map : (position limit : ℕ) (bits : List Bool) (j : ℕ) →
+bit_in_map : (position limit : ℕ) (bits : List Bool) (j : ℕ) →
     ((0 < length bits) → position + length bits < 2 ^ 63)
     → get_or (map_bits (record { position = position; map = (best_map bits limit).text })) j false
     ≡ true → get_or bits j false ≡ true
@@ -133,7 +133,7 @@ module _ (k end n b limit : ℕ) (xs : List Record) (f : ℕ → Bool) (rises : 
   known = known_of k end xs
 
   -- a record below the position is complete
-  pub below_position : (r : Record) → In r xs → b ≤ r.offset → r.offset < position_at b
+  below_position : (r : Record) → In r xs → b ≤ r.offset → r.offset < position_at b
       (marks_by f (known_of k end xs)) → f r.offset ≡ true
   unfolding position_at end_at
   below_position r i from below = elim (cases_Bool (f r.offset)) [

@@ -15,17 +15,17 @@ use Rattle.pc_laws.proofs.Passing.{option_cases, marks_by, In-incomplete, In-inc
 -- ---- which position it is
 
 module _ (b : ℕ) (marks : List Mark) where
-  pub position_at-some : (m : ℕ) → least_of (incomplete_offsets marks) ≡ Some m →
+  position_at-some : (m : ℕ) → least_of (incomplete_offsets marks) ≡ Some m →
       position_at b marks ≡ m
   unfolding position_at
   position_at-some m some = rw some refl
 
-  pub position_at-end : (g : ℕ) → least_of (incomplete_offsets marks) ≡ None → greatest_of
+  position_at-end : (g : ℕ) → least_of (incomplete_offsets marks) ≡ None → greatest_of
       (offsets_of marks) ≡ Some g → position_at b marks ≡ g + 1
   unfolding position_at end_at
   position_at-end g none most = rw (none, most) refl
 
-  pub position_at-begin : least_of (incomplete_offsets marks) ≡ None → greatest_of
+  position_at-begin : least_of (incomplete_offsets marks) ≡ None → greatest_of
       (offsets_of marks) ≡ None → position_at b marks ≡ b
   unfolding position_at end_at
   position_at-begin none nothing = rw (none, nothing) refl

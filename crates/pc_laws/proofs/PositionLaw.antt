@@ -36,7 +36,7 @@ pub is_position_of : (given : Given) (h : List Event) (p : ℕ) → IsPosition (
 unfolding marks_of known_records polled_records unpolled_records
 is_position_of given h p = is_position (begin_of h p) (is_complete h p) (known_by given h p)
 
-pub known-from_begin : (given : Given) (h : List Event) (p : ℕ) (r : Record) → In r
+known-from_begin : (given : Given) (h : List Event) (p : ℕ) (r : Record) → In r
     (known_by given h p) → begin_of h p ≤ r.offset
 known-from_begin given h p r i = leb-true (begin_of h p) r.offset
     (In-filtered (λ q. nat_le (begin_of h p) q.offset) r (records_of given p)
@@ -131,7 +131,7 @@ position_of-le given Closed h p legal apart = same-le _ _ refl
 
 -- ---- what may be stored is in order
 
-pub CommitsUpTo-more : (h : List Event) (p x y : ℕ) → x ≤ y → CommitsUpTo h p x → CommitsUpTo h p y
+CommitsUpTo-more : (h : List Event) (p x y : ℕ) → x ≤ y → CommitsUpTo h p x → CommitsUpTo h p y
 CommitsUpTo-more [] p x y le upto = tt
 CommitsUpTo-more (Committed q position text size ∷ h) p x y le upto = (
   λ same. let below : position ≤ x = upto.0 same

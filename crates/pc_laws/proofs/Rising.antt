@@ -15,7 +15,7 @@ abbrev pub Rises : ℕ → List Record → Type 0
 Rises n [] = Unit {0}
 Rises n (r ∷ rs) = (n ≤ r.offset) × (r.offset < 2 ^ 63 - 1) × Rises (suc r.offset) rs
 
-pub Rises-test : (n : ℕ) (rs : List Record) → rises_from n rs ≡ true → Rises n rs
+Rises-test : (n : ℕ) (rs : List Record) → rises_from n rs ≡ true → Rises n rs
 Rises-test n [] e = tt
 Rises-test n (r ∷ rs) e =
     let rest = and-right (nat_le n r.offset)

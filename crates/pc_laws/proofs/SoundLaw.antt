@@ -23,14 +23,14 @@ use Rattle.pc_laws.proofs.Rising.{Rises-filter, legal-rises}
 use Rattle.pc_laws.proofs.Passing.{option_cases, passed_is_complete}
 
 -- what may be passed over may be passed over after one more event
-pub MayPass-more : (given : Given) (v : Event) (h : List Event) (p o : ℕ) → MayPass given h p o →
+MayPass-more : (given : Given) (v : Event) (h : List Event) (p o : ℕ) → MayPass given h p o →
     MayPass given (v ∷ h) p o
 MayPass-more given v h p o (inl none) = inl none
 MayPass-more given v h p o (inr (inl start)) = inr (inl start)
 MayPass-more given v h p o (inr (inr done)) = inr
     (inr (or-right (is_current_success v h p o) (was_done h p o) done))
 
-pub PassesSoundly-more : (given : Given) (v : Event) (h : List Event) (p : ℕ) (c : Commit) →
+PassesSoundly-more : (given : Given) (v : Event) (h : List Event) (p : ℕ) (c : Commit) →
     PassesSoundly given h p c → PassesSoundly given (v ∷ h) p c
 PassesSoundly-more given v h p c sound o passed = MayPass-more given v h p o (sound o passed)
 
@@ -54,7 +54,7 @@ module _ (given : Given) (h : List Event) (legal : IsLegal given h) (kept : Keep
     (p : ℕ)
     (held : is_held h p ≡ true) where
   -- a complete offset may be passed over
-  pub complete_passes : (o : ℕ) → is_complete h p o ≡ true → MayPass given h p o
+  complete_passes : (o : ℕ) → is_complete h p o ≡ true → MayPass given h p o
   unfolding is_complete
   complete_passes o complete = elim
       (or-cases (has_succeeded h p (epoch_of h p) o) (passes (assigned_commit h p) o) complete) [
@@ -74,7 +74,7 @@ module _ (given : Given) (h : List Event) (legal : IsLegal given h) (kept : Keep
     | inl below ↦ below_begin r.offset below
     | inr from ↦ complete_passes r.offset
         (passed_is_complete (polled_count h p) (map_end (assigned_commit h p)) 0
-        (begin_of h p) given.setup.map_limit (records_from_begin given h p)
+        (begin_of h p) given.setup.settings.map_limit (records_from_begin given h p)
         (is_complete h p) (Rises-filter (λ r. nat_le (begin_of h p) r.offset) 0 (records_of given p)
         (legal-rises given h legal p))
         r (In-filter (λ r. nat_le (begin_of h p) r.offset) r (records_of given p) i
@@ -82,7 +82,7 @@ module _ (given : Given) (h : List Event) (legal : IsLegal given h) (kept : Keep
   ]
 
   -- and each that the part's commit passes over
-  pub commit_of-sound : PassesSoundly given h p (commit_of given h p).commit
+  commit_of-sound : PassesSoundly given h p (commit_of given h p).commit
   commit_of-sound o passed = elim (option_cases (record_at given p o)) [
     | inl none ↦ inl none
     | inr found ↦
@@ -136,7 +136,7 @@ module _ (given : Given) (v : Event) (h : List Event) (kept : KeepsPassing given
   }
 
 -- a lawful commit, stored or failed, passes over nothing else
-pub commit-sound : (given : Given) (h : List Event) → IsLegal given h → KeepsPassing given h →
+commit-sound : (given : Given) (h : List Event) → IsLegal given h → KeepsPassing given h →
     (q position : ℕ) (text : List ℕ) (size : ℕ)
     → CommitIsLawful given h q position text size → PassesSoundly given h q
     (record { position = position; map = text })
@@ -145,13 +145,13 @@ commit-sound given h legal kept q position text size lawful =
     (commit_of-sound given h legal kept q lawful.held)
 
 -- what may be stored after a commit that was stored, or that failed
-pub stored_after-In : (b : Bool) (c d : Commit) (before : List Commit) → In d
+stored_after-In : (b : Bool) (c d : Commit) (before : List Commit) → In d
     (stored_after (cond b (Some c) None) None before) → In d before ⊎ ((b ≡ true) × (d ≡ c))
 stored_after-In true c d before (inl same) = inr (refl, same)
 stored_after-In true c d before (inr none) = absurd none
 stored_after-In false c d before i = inl i
 
-pub failed_after-In : (b : Bool) (c d : Commit) (before : List Commit) → In d
+failed_after-In : (b : Bool) (c d : Commit) (before : List Commit) → In d
     (stored_after None (cond b (Some c) None) before) → In d before ⊎ ((b ≡ true) × (d ≡ c))
 failed_after-In true c d before i = elim (In-append d before (c ∷ []) i) [
   | inl old ↦ inl old

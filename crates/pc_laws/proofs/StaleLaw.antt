@@ -29,7 +29,7 @@ any-filter f g (j ∷ js) apart = elim (cases_Bool (g j)) [
 -- ---- tickets
 
 -- no ticket is above the number of dispatches
-pub ticket-le : (given : Given) (h : List Event) → IsLegal given h →
+ticket-le : (given : Given) (h : List Event) → IsLegal given h →
     (j : Job) → In j (jobs_of h) → j.ticket ≤ dispatch_count h
 ticket-le given [] legal j i = absurd i
 ticket-le given (Dispatch t w p o e a ∷ h) legal j (inl same) =
@@ -56,7 +56,7 @@ job_of-In given (v ∷ h) legal j i = job_of-In given h legal.2 j i
 -- ---- a stale result
 
 module _ (given : Given) (h : List Event) (t : ℕ) (legal : IsLegal given (Stale t ∷ h)) where
-  pub same_part-stale : (p : ℕ) → SamePart given p h (Stale t ∷ h)
+  same_part-stale : (p : ℕ) → SamePart given p h (Stale t ∷ h)
   same_part-stale p = other_part given p (Stale t) h refl
 
   -- the job that it settles is not current
@@ -68,7 +68,7 @@ module _ (given : Given) (h : List Event) (t : ℕ) (legal : IsLegal given (Stal
       (In-filtered (λ k. not (is_settled h k.ticket)) j (jobs_of h) i).0) in
       rw of at legal.0.past
 
-  pub is_busy-stale : (key : OrderingKey) → is_busy given (Stale t ∷ h) key ≡ is_busy given h key
+  is_busy-stale : (key : OrderingKey) → is_busy given (Stale t ∷ h) key ≡ is_busy given h key
   unfolding is_busy
   is_busy-stale key = rw (open_jobs-settled (Stale t) h refl)
       (any-filter (λ j. is_current h j && has_key given key j) (λ j. not (t == j.ticket))

@@ -10,7 +10,7 @@ use Rattle.pc_model.specs.declared.choices.Order.TheVariants.{None as NoOrder, P
 use Rattle.pc_model.specs.declared.event.Event.{Event}
 use Rattle.pc_model.specs.declared.setup.Setup.{Setup}
 use Rattle.pc_model.specs.Record.{Record}
-use Rattle.pc_model.specs.Ranges.{settings_fault, range_fault, delays_fault, rules_fault, starts_fault}
+use Rattle.pc_model.proofs.SetupLaws.{setup-within}
 use Rattle.pc_model.specs.declared.setup.SetupField.{SetupField}
 use Rattle.pc_model.specs.declared.setup.SetupField.TheVariants.{MapLimit, PressPercent, GiveUp, Buffer, PollMax, CommitEvery}
 use Rattle.pc_model.specs.declared.setup.SetupFault.{SetupFault}
@@ -91,7 +91,7 @@ least-record r (t ∷ ts) =
     ]
 
 -- the least of records of which there is one
-pub least-of-some : (rs : List Record) (r : Record) → In r rs →
+least-of-some : (rs : List Record) (r : Record) → In r rs →
     (s : Record) × In s rs × ((q : Record) → In q rs → s.offset ≤ q.offset)
 least-of-some [] r i = absurd i
 least-of-some (t ∷ ts) r i = least-record t ts
@@ -119,21 +119,21 @@ commit-frees : (given : Given) (h : List Event) (p : ℕ) → IsLegal given h �
     is_blocked given h p ≡ true
     → ((g : ℕ) → high_of given h p ≡ Some g → g < position_of given h p) → GoesOn given h p
 commit-frees given h p legal held blocked above =
-    let size : (commit_of given h p).size ≡ 0 = size-none given.setup.map_limit (begin_of h p)
+    let size : (commit_of given h p).size ≡ 0 = size-none given.setup.settings.map_limit (begin_of h p)
     (marks_of given h p) (bits-none (begin_of h p) (marks_of given h p) above) in
     elim (option_cases (last_size h p)) [
       | inl none ↦ let nothing = rw none at blocked in cc nothing
       | inr last ↦ elim (cases_lt 0 (new_successes h p (epoch_of h p))) [
         | inl some ↦ CommitIsDue blocked
             (rw (held, blocked, lt-ltb 0 (new_successes h p (epoch_of h p)) some)
-            (or-true (nat_le given.setup.commit_every (new_successes h p (epoch_of h p))))) size
+            (or-true (nat_le given.setup.settings.commit_every (new_successes h p (epoch_of h p))))) size
         | inr no_new ↦
             let zero_new : new_successes h p (epoch_of h p) ≡ 0 = omega arith in
             let last_is : last.0 ≡ 0 = sym
             (keeps_size given h p legal last.0 held last.1 blocked zero_new) ∙ size in
-            let pressed : is_pressed last.0 given.setup.map_limit given.setup.press_percent ≡ true =
+            let pressed : is_pressed last.0 given.setup.settings.map_limit given.setup.settings.press_percent ≡ true =
             rw last.1 at blocked in
-            let lt : given.setup.map_limit * given.setup.press_percent < 0 * 100 = ltb-true _ _
+            let lt : given.setup.settings.map_limit * given.setup.settings.press_percent < 0 * 100 = ltb-true _ _
             (rw last_is at pressed) in
             absurd (omega arith)
       ]
@@ -178,7 +178,7 @@ module _ (given : Given) (h : List Event) (p : ℕ) (legal : IsLegal given h) wh
   open-polled r i = let at = In-filtered (λ q. not (is_complete h p q.offset)) r
       (polled_records given h p) i in (at.0, not-true _ at.1)
 
-  pub open-In : (r : Record) → In r (polled_records given h p) → is_complete h p r.offset ≡ false →
+  open-In : (r : Record) → In r (polled_records given h p) → is_complete h p r.offset ≡ false →
       In r (open_records given h p)
   unfolding open_records
   open-In r i waits = In-filter (λ q. not (is_complete h p q.offset)) r (polled_records given h p) i
@@ -207,13 +207,13 @@ same_key-part Partition p q r s e = eqb-true p q e
 same_key-part Key p q r s e = eqb-true p q (and-left _ _ e)
 
 has_key-part-step : (given : Given) (p : ℕ) (r : Record) (j : Job) (o : Option Record)
-    → option_map_or (same_key (ordering_key given.setup.order p r))
-    (option_map (ordering_key given.setup.order j.part) o) false ≡ true → p ≡ j.part
+    → option_map_or (same_key (ordering_key given.setup.settings.order p r))
+    (option_map (ordering_key given.setup.settings.order j.part) o) false ≡ true → p ≡ j.part
 has_key-part-step given p r j None e = cc
-has_key-part-step given p r j (Some s) e = same_key-part given.setup.order p j.part r s e
+has_key-part-step given p r j (Some s) e = same_key-part given.setup.settings.order p j.part r s e
 
 has_key-part : (given : Given) (p : ℕ) (r : Record) (j : Job) → has_key given
-    (ordering_key given.setup.order p r) j ≡ true → p ≡ j.part
+    (ordering_key given.setup.settings.order p r) j ≡ true → p ≡ j.part
 has_key-part given p r j e = has_key-part-step given p r j (record_at given j.part j.offset) e
 
 -- ---- the law
@@ -252,34 +252,8 @@ list_cases (x ∷ xs) = inr (x, inl refl)
 
 -- ---- a setup has room for at least one record
 
-fourth-none : (a b c d e r : Option SetupFault) → is_none
-    (option_or (option_or a (option_or b (option_or c (option_or d e)))) r) ≡ true → is_none d
-    ≡ true
-fourth-none (Some x) b c d e r h = cc
-fourth-none None (Some x) c d e r h = cc
-fourth-none None None (Some x) d e r h = cc
-fourth-none None None None (Some x) e r h = cc
-fourth-none None None None None e r h = refl
-
-in-range : (field : SetupField) (least most value : ℕ) → is_none
-    (range_fault field least most value) ≡ true → least ≤ value
-in-range field least most value e = elim (cases_Bool (nat_le least value)) [
-  | inl le ↦ leb-true least value le
-  | inr lt ↦ let out = rw lt at e in cc out
-]
-
-buffer-positive : (setup : Setup) → 0 < setup.buffer
-unfolding settings_fault
-buffer-positive setup =
-    let le : 1 ≤ setup.buffer = in-range Buffer 1 1000000 setup.buffer
-    (fourth-none (range_fault MapLimit 0 4096 setup.map_limit)
-    (range_fault PressPercent 1 100 setup.press_percent)
-    (range_fault GiveUp 1 1000000 setup.give_up)
-    (range_fault Buffer 1 1000000 setup.buffer)
-    (option_or (range_fault PollMax 1 1000000 setup.poll_max)
-    (range_fault CommitEvery 1 1000000 setup.commit_every))
-    (option_or (delays_fault setup.delays)
-    (option_or (rules_fault setup.rules.fails) (starts_fault setup.starts))) setup.in_range) in
+buffer-positive : (setup : Setup) → 0 < setup.settings.buffer
+buffer-positive setup = let least : 1 ≤ setup.settings.buffer = (setup-within setup).buffer.least in
     omega arith
 
 implies-test : (a b : Bool) → (a ≡ true → b ≡ true) → (not a || b) ≡ true
@@ -299,14 +273,14 @@ module _ (given : Given) (h : List Event) (p : ℕ) (legal : IsLegal given h)
   eligible-least r least idle unspent ready pressed =
       let at = open-polled given h p legal r least.is_open in
       let free : list_any (λ j. is_current h j && has_key given
-      (ordering_key given.setup.order p r) j) (open_jobs h) ≡ false =
+      (ordering_key given.setup.settings.order p r) j) (open_jobs h) ≡ false =
       elim (cases_Bool (list_any
-      (λ j. is_current h j && has_key given (ordering_key given.setup.order p r) j)
+      (λ j. is_current h j && has_key given (ordering_key given.setup.settings.order p r) j)
       (open_jobs h))) [
         | inr none ↦ none
         | inl some ↦
             let job = In-list_any (λ j. is_current h j && has_key given
-            (ordering_key given.setup.order p r) j) (open_jobs h) some in
+            (ordering_key given.setup.settings.order p r) j) (open_jobs h) some in
             let part : p ≡ job.0.part = has_key-part given p r job.0
             (and-right (is_current h job.0) _ job.2) in
             true-not-false _ (list_any-In (λ j. is_current h j && (j.part == p)) job.0
@@ -324,8 +298,8 @@ module _ (given : Given) (h : List Event) (p : ℕ) (legal : IsLegal given h)
             let le : r.offset ≤ q.offset = least.least q (open-In given h p legal q i waits)
             in absurd (omega arith)
       ])) in
-      let attempts : nat_lt (failures_of h p r.offset) given.setup.give_up ≡ true =
-      unspent-lt given.setup.give_up (failures_of h p r.offset) unspent in
+      let attempts : nat_lt (failures_of h p r.offset) given.setup.settings.give_up ≡ true =
+      unspent-lt given.setup.settings.give_up (failures_of h p r.offset) unspent in
       let test : is_eligible_record given h p r ≡ true = rw
       (at.1, free, first, attempts, le-leb (ready_of h p r.offset) (now_of h) ready)
       (implies-test (is_blocked given h p) (is_below_high given h p r.offset) pressed) in
@@ -368,15 +342,15 @@ module _ (given : Given) (h : List Event) (p : ℕ) (legal : IsLegal given h)
   goes_on-poll r i none running = elim (option_cases (slice_get (unpolled_records given h p) 0)) [
     | inl nothing ↦ absurd (slice_get-none (unpolled_records given h p) r nothing i)
     | inr first ↦ elim (cases_Bool (may_poll_next given h p (Some first.0))) [
-      | inl may ↦ PollIsOpen (min given.setup.poll_max
-          (given.setup.buffer - length (open_records given h p)))
+      | inl may ↦ PollIsOpen (min given.setup.settings.poll_max
+          (given.setup.settings.buffer - length (open_records given h p)))
           (rw (
             held,
             running,
             first.1,
             may,
             none,
-            lt-ltb 0 given.setup.buffer
+            lt-ltb 0 given.setup.settings.buffer
                 (buffer-positive given.setup),
           ) refl)
       | inr not_now ↦

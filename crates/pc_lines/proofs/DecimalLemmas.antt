@@ -62,7 +62,7 @@ own : IsNumeralModel (λ ds. all_ascii_digits ds ≡ true) (digits_value 10)
 own = numerals_by_value _ tells_all_ascii_digits
 
 -- a 0 stands alone
-abbrev pub StandsAlone : List ℕ → Type 0
+abbrev StandsAlone : List ℕ → Type 0
 StandsAlone word = get_or word 0 0 ≡ 48 → length word ≡ 1
 
 is_decimal-from : (word : List ℕ) → AllDigits 10 word → 0 < length word → StandsAlone word → is_decimal word ≡ true

@@ -12,13 +12,13 @@ unescaped_of-nil : unescaped_of [] ≡ Some []
 unfolding unescaped_of
 unescaped_of-nil = refl
 
-pub unescaped_of-other : (b : ℕ) (rest : List ℕ) → eqb b 37 ≡ false → unescaped_of (b ∷ rest) ≡ onto (plain_of b) (unescaped_of rest)
+unescaped_of-other : (b : ℕ) (rest : List ℕ) → eqb b 37 ≡ false → unescaped_of (b ∷ rest) ≡ onto (plain_of b) (unescaped_of rest)
 unfolding unescaped_of
 unescaped_of-other b [] e = refl
 unescaped_of-other b (c ∷ []) e = refl
 unescaped_of-other b (c ∷ d ∷ rest) e = rw e refl
 
-pub unescaped_of-code : (high low : ℕ) (rest : List ℕ) → unescaped_of (37 ∷ high ∷ low ∷ rest) ≡ onto (coded_byte (hex_value high) (hex_value low)) (unescaped_of rest)
+unescaped_of-code : (high low : ℕ) (rest : List ℕ) → unescaped_of (37 ∷ high ∷ low ∷ rest) ≡ onto (coded_byte (hex_value high) (hex_value low)) (unescaped_of rest)
 unfolding unescaped_of
 unescaped_of-code high low rest = refl
 
@@ -44,7 +44,7 @@ unfolding unescaped_of
 unescaped_of-end [] front whole none e = sym e ∙ ap Some (append-nil front)
 unescaped_of-end (b ∷ rest) front whole none e = absurd (omega arith)
 
-pub onto-step : (front : List ℕ) (b : ℕ) (read : Option (List ℕ)) → option_map (λ (more : List ℕ). front ++ more) (onto (Some b) read) ≡ option_map (λ (more : List ℕ). (front ++ b ∷ []) ++ more) read
+onto-step : (front : List ℕ) (b : ℕ) (read : Option (List ℕ)) → option_map (λ (more : List ℕ). front ++ more) (onto (Some b) read) ≡ option_map (λ (more : List ℕ). (front ++ b ∷ []) ++ more) read
 onto-step front b None = refl
 onto-step front b (Some more) = ap Some (sym (append_assoc front (b ∷ []) more))
 

@@ -31,7 +31,7 @@ after_first-fail p b bs e = rw (e, one-add, add-one, add-one) refl
 -- ---- lines
 
 -- a text that is not empty begins with the line before its first line feed
-pub lines_of-first : (b : ℕ) (text : List ℕ) → lines_of (b ∷ text) ≡ before_first is_feed (b ∷ text) ∷ lines_of (after_first is_feed (b ∷ text))
+lines_of-first : (b : ℕ) (text : List ℕ) → lines_of (b ∷ text) ≡ before_first is_feed (b ∷ text) ∷ lines_of (after_first is_feed (b ∷ text))
 lines_of-first b [] =
     elim (cases_Bool (is_feed b)) [
       | inl feed ↦ rw (before_first-pass is_feed b [] feed, after_first-pass is_feed b [] feed, feed) refl
@@ -60,7 +60,7 @@ length-lines_of-le (b ∷ text) =
 -- ---- words
 
 -- spaces at the front give no word
-pub words_of-drop_spaces : (line : List ℕ) → words_of (drop (position_or_len (λ b. not (is_space b)) line) line) ≡ words_of line
+words_of-drop_spaces : (line : List ℕ) → words_of (drop (position_or_len (λ b. not (is_space b)) line) line) ≡ words_of line
 words_of-drop_spaces [] = refl
 words_of-drop_spaces (b ∷ line) =
     elim (cases_Bool (is_space b)) [
@@ -75,7 +75,7 @@ no_space : (line : List ℕ) → length line ≤ position_or_len is_space line �
 no_space line none = λ k d lt. fails_before_first is_space line k d (omega arith)
 
 -- a line that begins with another byte begins with the word before its first space
-pub words_of-first : (b : ℕ) (line : List ℕ) → is_space b ≡ false → words_of (b ∷ line) ≡ before_first is_space (b ∷ line) ∷ words_of (after_first is_space (b ∷ line))
+words_of-first : (b : ℕ) (line : List ℕ) → is_space b ≡ false → words_of (b ∷ line) ≡ before_first is_space (b ∷ line) ∷ words_of (after_first is_space (b ∷ line))
 words_of-first b line e =
     elim (cases_lt (position_or_len is_space (b ∷ line)) (length (b ∷ line))) [
       | inl found ↦ ap (filter is_not_empty) (slice_split_first is_space (b ∷ line) 0 found) ∙ rw (not_empty b line e) refl

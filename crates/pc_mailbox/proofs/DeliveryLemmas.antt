@@ -32,7 +32,7 @@ at_more (x ∷ xs) a b (suc j) e = ⊎_elim (λ t. inl t) (λ t. inr (ap suc t.0
 
 module _ {A : Type 0} where
   -- the function, but for one place
-  abbrev pub with_at : ℕ → A → (ℕ → A) → ℕ → A
+  abbrev with_at : ℕ → A → (ℕ → A) → ℕ → A
   with_at n a f p = if p == n then a else f p
 
   with_at-here : (n : ℕ) (a : A) (f : ℕ → A) → with_at n a f n ≡ a
@@ -337,7 +337,7 @@ module _ {T : Type 0} where
 
   -- What clauses see
 
-  pub next-taken : (old : Receiving T) (name : Name) (v w : Known T) (x : Letter T) (done : T) → old.taken ≡ taken_of v → old.misses ≡ misses_of v → name ≡ old.mailbox → done ≡ x.value
+  next-taken : (old : Receiving T) (name : Name) (v w : Known T) (x : Letter T) (done : T) → old.taken ≡ taken_of v → old.misses ≡ misses_of v → name ≡ old.mailbox → done ≡ x.value
       → TakesNext v x w → TakenNext old (record { mailbox = name; taken = taken_of w; misses = misses_of w }) done
   next-taken old name v w x done taken missed same is t = record {
     sender = x.sender;

@@ -38,7 +38,7 @@ map_reading-bytes base [] = refl
 map_reading-bytes base (symbol ∷ text) = refl
 
 -- the text of bytes reads as they do
-pub map_reading-map_text : (base letter : ℕ) (bytes : List ℕ) → IsBytes (letter ∷ bytes) → map_reading base (map_text letter bytes) ≡ letter_reading base letter bytes
+map_reading-map_text : (base letter : ℕ) (bytes : List ℕ) → IsBytes (letter ∷ bytes) → map_reading base (map_text letter bytes) ≡ letter_reading base letter bytes
 map_reading-map_text base letter bytes are =
     map_reading-bytes base (map_text letter bytes) ∙ rw (decode_of-encode_of standard (letter ∷ bytes) refl are) refl
 
@@ -60,7 +60,7 @@ IsBytes-nil : IsBytes []
 IsBytes-nil i = omega arith
 
 -- a number's bytes are bytes
-pub IsBytes-big_bytes : (width n : ℕ) → IsBytes (big_bytes width n)
+IsBytes-big_bytes : (width n : ℕ) → IsBytes (big_bytes width n)
 IsBytes-big_bytes zero n = IsBytes-nil
 IsBytes-big_bytes (suc zero) n = IsBytes-cons _ [] (omega arith) IsBytes-nil
 IsBytes-big_bytes (suc (suc width)) n = IsBytes-cons _ (big_bytes (suc width) n) (omega arith) (IsBytes-big_bytes (suc width) n)
@@ -88,7 +88,7 @@ IsBytes-run width bits bytes is =
     let parts = cond_some _ _ bytes is in subst IsBytes parts.1 (IsBytes-flat_map width (run_lengths bits))
 
 -- a letter with a spelling and the bytes of that
-pub IsBytes-spelling_of : (letter : ℕ) (bits : List Bool) (bytes : List ℕ) → spelling_of letter bits ≡ Some bytes → IsBytes (letter ∷ bytes)
+IsBytes-spelling_of : (letter : ℕ) (bits : List Bool) (bytes : List ℕ) → spelling_of letter bits ≡ Some bytes → IsBytes (letter ∷ bytes)
 unfolding spelling_of
 IsBytes-spelling_of letter bits bytes is = elim (cases_Bool (letter == 108)) [
   | inl l ↦
@@ -113,13 +113,13 @@ IsBytes-spelling_of letter bits bytes is = elim (cases_Bool (letter == 108)) [
 ]
 
 -- the text of a spelling is read as the same bits
-pub map_reading-spelling_of : (base letter : ℕ) (bits : List Bool) (bytes : List ℕ) → base + length bits < 2 ^ 63 → spelling_of letter bits ≡ Some bytes
+map_reading-spelling_of : (base letter : ℕ) (bits : List Bool) (bytes : List ℕ) → base + length bits < 2 ^ 63 → spelling_of letter bits ≡ Some bytes
     → map_reading base (map_text letter bytes) ≡ Ok (Some bits)
 map_reading-spelling_of base letter bits bytes room is =
     map_reading-map_text base letter bytes (IsBytes-spelling_of letter bits bytes is) ∙ letter_reading-spelling_of base letter bits bytes room is
 
 -- a letter's text is read as the same bits
-pub map_reading-text_of : (base letter : ℕ) (bits : List Bool) (best : ℕ × List ℕ) → base + length bits < 2 ^ 63 → text_of letter bits ≡ Some best
+map_reading-text_of : (base letter : ℕ) (bits : List Bool) (best : ℕ × List ℕ) → base + length bits < 2 ^ 63 → text_of letter bits ≡ Some best
     → (best.0 ≡ letter) × (map_reading base best.1 ≡ Ok (Some bits))
 unfolding text_of
 map_reading-text_of base letter bits best room is = go (spelling_of letter bits) refl is where
@@ -173,7 +173,7 @@ IsWithin-same : (letter other n : ℕ) (bits : List Bool) → (letter == other) 
 IsWithin-same letter other n bits same within = rw (← eqb-true letter other same) within
 
 -- the shortest text is no longer than that of any letter
-pub IsWithin-shortest_text : (letter n : ℕ) (bits : List Bool) → IsWithin (text_of letter bits) n → IsWithin (shortest_text bits) n
+IsWithin-shortest_text : (letter n : ℕ) (bits : List Bool) → IsWithin (text_of letter bits) n → IsWithin (shortest_text bits) n
 unfolding shortest_text
 IsWithin-shortest_text letter n bits within = elim (cases_Bool (letter == 108)) [
   | inl l ↦

@@ -37,7 +37,7 @@ last_piece : {A : Type 0} (a b c d e : List A) → c ≡ d ++ e → a ++ (b ++ c
 last_piece a b c d e h = rw (h, append_assoc, append_assoc) refl
 
 -- more 1 bits at the end
-pub bits_of-more : (at least count n : ℕ) (runs : List (ℕ × ℕ)) → at ≤ least → at ≤ count → AreRuns least count runs
+bits_of-more : (at least count n : ℕ) (runs : List (ℕ × ℕ)) → at ≤ least → at ≤ count → AreRuns least count runs
     → bits_of at (count + n) runs ≡ bits_of at count runs ++ replicate n true
 bits_of-more at least count n [] h fits are =
     let e : count + n - at ≡ count - at + n = omega arith in
@@ -71,7 +71,7 @@ AreRuns-slice_get least count (first ∷ runs) (suc i) run are is =
 -- ---- one more run
 
 -- the bits with one more run of 0 bits at the end
-pub bits_of-add_run : (at least count n : ℕ) (runs : List (ℕ × ℕ)) → at ≤ least → at ≤ count → AreRuns least count runs
+bits_of-add_run : (at least count n : ℕ) (runs : List (ℕ × ℕ)) → at ≤ least → at ≤ count → AreRuns least count runs
     → bits_of at (count + n) (add_run runs count n) ≡ bits_of at count runs ++ replicate n false
 bits_of-add_run at least count n [] h fits are =
     let none : count + n - (count + n) ≡ 0 = omega arith in
@@ -112,7 +112,7 @@ add_run-none (first ∷ runs) place n is =
     cc (is, has)
 
 -- the last run grows where it ends at the place
-pub add_run-joins : (runs : List (ℕ × ℕ)) (place n i : ℕ) (run : ℕ × ℕ) → suc i ≡ length runs → slice_get runs i ≡ Some run → run.0 + run.1 ≡ place
+add_run-joins : (runs : List (ℕ × ℕ)) (place n i : ℕ) (run : ℕ × ℕ) → suc i ≡ length runs → slice_get runs i ≡ Some run → run.0 + run.1 ≡ place
     → slice_set runs i (run.0, run.1 + n) ≡ add_run runs place n
 add_run-joins [] place n i run len is touches = cc is
 add_run-joins (first ∷ []) place n zero run len is touches =
@@ -124,7 +124,7 @@ add_run-joins (first ∷ next ∷ runs) place n (suc i) run len is touches =
     ap (λ (l : List (ℕ × ℕ)). first ∷ l) (add_run-joins (next ∷ runs) place n i run (omega arith) is touches)
 
 -- a run of its own where the last does not end at the place
-pub add_run-apart : (runs : List (ℕ × ℕ)) (place n i : ℕ) (run : ℕ × ℕ) → suc i ≡ length runs → slice_get runs i ≡ Some run → (run.0 + run.1 ≡ place → ⊥)
+add_run-apart : (runs : List (ℕ × ℕ)) (place n i : ℕ) (run : ℕ × ℕ) → suc i ≡ length runs → slice_get runs i ≡ Some run → (run.0 + run.1 ≡ place → ⊥)
     → runs ++ (place, n) ∷ [] ≡ add_run runs place n
 add_run-apart [] place n i run len is apart = refl
 add_run-apart (first ∷ []) place n zero run len is apart =
@@ -154,7 +154,7 @@ add_run-last_apart runs place n run is apart =
 -- ---- zero_runs
 
 -- 1 bits begin no run
-pub zero_runs_from-true : (at n : ℕ) (bits : List Bool) → zero_runs_from at (replicate n true ++ bits) ≡ zero_runs_from (at + n) bits
+zero_runs_from-true : (at n : ℕ) (bits : List Bool) → zero_runs_from at (replicate n true ++ bits) ≡ zero_runs_from (at + n) bits
 zero_runs_from-true at zero bits = rw add-zero refl
 zero_runs_from-true at (suc n) bits =
     let e : at + 1 + n ≡ at + suc n = omega arith in
@@ -168,7 +168,7 @@ with_false-apart at count (run ∷ runs) are =
     rw (ne_eqb run.0 (at + 1) apart) refl
 
 -- 0 bits are one run, before runs that they do not touch
-pub zero_runs_from-false : (at n count : ℕ) (bits : List Bool) (runs : List (ℕ × ℕ)) → zero_runs_from (at + suc n) bits ≡ runs → AreRuns (at + suc n + 1) count runs
+zero_runs_from-false : (at n count : ℕ) (bits : List Bool) (runs : List (ℕ × ℕ)) → zero_runs_from (at + suc n) bits ≡ runs → AreRuns (at + suc n + 1) count runs
     → zero_runs_from at (replicate (suc n) false ++ bits) ≡ (at, suc n) ∷ runs
 zero_runs_from-false at zero count bits runs is are =
     let two : at + 1 + 1 ≡ at + 2 = omega arith in
@@ -180,7 +180,7 @@ zero_runs_from-false at (suc n) count bits runs is are =
     rw (ih, eq-eqb (at + 1) (at + 1) refl, add-one) refl
 
 -- the runs of the bits that have these runs
-pub zero_runs_from-bits_of : (at least count : ℕ) (runs : List (ℕ × ℕ)) → at ≤ least → AreRuns least count runs → zero_runs_from at (bits_of at count runs) ≡ runs
+zero_runs_from-bits_of : (at least count : ℕ) (runs : List (ℕ × ℕ)) → at ≤ least → AreRuns least count runs → zero_runs_from at (bits_of at count runs) ≡ runs
 zero_runs_from-bits_of at least count [] h are =
     rw (← append-nil (replicate (count - at) true)) (zero_runs_from-true at (count - at) [])
 zero_runs_from-bits_of at least count ((place, zero) ∷ runs) h are = absurd (omega (arith, are.1))

@@ -32,7 +32,7 @@ is_for-joined s t group part of_s of_t =
     rw (groups, parts, same_number s.part, (bytes_eq-Decides s.group s.group).1 refl) refl
 
 -- what is found for a group and a part is the commit that was put, or what was found before
-pub find-put_stored : (s : Stored) (ts : List Stored) (group : List ℕ) (part : ℕ)
+find-put_stored : (s : Stored) (ts : List Stored) (group : List ℕ) (part : ℕ)
     → find (is_for group part) (put_stored s ts)
     ≡ cond (is_for group part s) (Some s) (find (is_for group part) ts)
 find-put_stored s [] group part = refl

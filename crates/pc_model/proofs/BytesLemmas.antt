@@ -35,7 +35,7 @@ low_first-false zero = refl
 low_first-false (suc n) = rw (low_first-false n) refl
 
 -- the bit at a place, by division
-pub bit_of-low_first : (bits : List Bool) (place : ℕ) → ((low_first bits / 2 ^ place) % 2 == 1) ≡ get_or bits place false
+bit_of-low_first : (bits : List Bool) (place : ℕ) → ((low_first bits / 2 ^ place) % 2 == 1) ≡ get_or bits place false
 bit_of-low_first [] place = rw (zero-div (2 ^ place)) refl
 bit_of-low_first (true ∷ bits) zero =
     let odd : ((1 + 2 * low_first bits) / 1) % 2 ≡ 1 = omega arith in
@@ -86,7 +86,7 @@ bit_bytes-byte bits some few =
     rw (count, take_all 8 bits few) refl
 
 -- the bit at a place of the bytes
-pub is_bit-bit_bytes : (bits : List Bool) (place : ℕ) → place < length bits → is_bit (bit_bytes bits) place ≡ get_or bits place false
+is_bit-bit_bytes : (bits : List Bool) (place : ℕ) → place < length bits → is_bit (bit_bytes bits) place ≡ get_or bits place false
 is_bit-bit_bytes bits place within =
     let byte : slice_index (bit_bytes bits) (place / 8) ≡ byte_of bits (place / 8) =
     get_or-map-range_with_len (byte_of bits) 0 (byte_count (length bits)) (place / 8) (place / 8) 0 (omega arith) (omega arith) in

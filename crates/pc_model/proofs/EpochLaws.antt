@@ -27,8 +27,8 @@ module _ (h : List Event) (p epoch : ℕ) where
   is_held-lost = simp (same_number p)
 
 -- a crash ends every part's epoch
-pub epoch_of-crash : (h : List Event) (p : ℕ) → epoch_of (Crash ∷ h) p ≡ epoch_of h p + 1
+epoch_of-crash : (h : List Event) (p : ℕ) → epoch_of (Crash ∷ h) p ≡ epoch_of h p + 1
 epoch_of-crash h p = refl
 
-pub is_held-crash : (h : List Event) (p : ℕ) → is_held (Crash ∷ h) p ≡ false
+is_held-crash : (h : List Event) (p : ℕ) → is_held (Crash ∷ h) p ≡ false
 is_held-crash h p = refl

@@ -7,7 +7,7 @@ use Rattle.pc_model.specs.Jobs.{Job, jobs_of, job_of, is_settled, open_jobs, set
 use Rattle.pc_model.proofs.ListLemmas.{filter-filter, filter-same, not-or}
 
 module _ (h : List Event) (t worker p o epoch attempt : ℕ) where
-  pub jobs_of-dispatch : jobs_of (Dispatch t worker p o epoch attempt ∷ h)
+  jobs_of-dispatch : jobs_of (Dispatch t worker p o epoch attempt ∷ h)
       ≡ record {
         ticket = t;
         worker = worker;
@@ -33,7 +33,7 @@ module _ (h : List Event) (t worker p o epoch attempt : ℕ) where
       } ∷ open_jobs h
   open_jobs-dispatch fresh = simp fresh
 
-  pub job_of-dispatch : (u : ℕ) → job_of (Dispatch t worker p o epoch attempt ∷ h) u
+  job_of-dispatch : (u : ℕ) → job_of (Dispatch t worker p o epoch attempt ∷ h) u
       ≡ (if t == u then Some (record
       { ticket = t; worker = worker; part = p; offset = o; epoch = epoch; attempt = attempt })
       else job_of h u)

@@ -39,7 +39,7 @@ module _ (given : Given) (p : ℕ) (h k : List Event) (same : SamePart given p h
   unpolled_records-same = ap (λ n. drop n (records_from_begin given k p)) same.polled
       ∙ ap (λ rs. drop (polled_count h p) rs) records_from_begin-same
 
-  pub known_records-same : known_records given k p ≡ known_records given h p
+  known_records-same : known_records given k p ≡ known_records given h p
   unfolding known_records
   known_records-same = rw (polled_records-same, unpolled_records-same, same.assigned)
 
@@ -61,9 +61,9 @@ module _ (given : Given) (p : ℕ) (h k : List Event) (same : SamePart given p h
   high_of-same = ap high_at marks_of-same
 
   pub commit_of-same : commit_of given k p ≡ commit_of given h p
-  commit_of-same = ap (λ (c : Commit). commit_at given.setup.map_limit c.position
+  commit_of-same = ap (λ (c : Commit). commit_at given.setup.settings.map_limit c.position
       (marks_of given k p)) same.assigned
-      ∙ ap (λ ms. commit_at given.setup.map_limit (begin_of h p) ms) marks_of-same
+      ∙ ap (λ ms. commit_at given.setup.settings.map_limit (begin_of h p) ms) marks_of-same
 
   pub is_stored-same : is_stored given k p ≡ is_stored given h p
   unfolding is_stored
@@ -72,7 +72,7 @@ module _ (given : Given) (p : ℕ) (h k : List Event) (same : SamePart given p h
 
   pub is_blocked-same : is_blocked given k p ≡ is_blocked given h p
   is_blocked-same = ap (λ s. option_map_or
-      (λ size. is_pressed size given.setup.map_limit given.setup.press_percent) s false) same.size
+      (λ size. is_pressed size given.setup.settings.map_limit given.setup.settings.press_percent) s false) same.size
 
   pub open_records-same : open_records given k p ≡ open_records given h p
   unfolding open_records
@@ -127,7 +127,7 @@ module _ (given : Given) (h : List Event) (p count last : ℕ) where
   unpolled_records-poll = rw
       (polled_count-poll, drop-drop count (polled_count h p) (records_from_begin given h p))
 
-  pub known_records-poll : known_records given (Poll p count last ∷ h) p
+  known_records-poll : known_records given (Poll p count last ∷ h) p
       ≡ (polled_records given h p ++ take count (unpolled_records given h p))
       ++ filter (λ r. nat_lt r.offset (map_end (assigned_commit h p)))
       (drop count (unpolled_records given h p))
@@ -143,7 +143,7 @@ module _ (given : Given) (h : List Event) (p count last : ℕ) where
 module _ (given : Given) (h : List Event) (t : ℕ) (answer : List ℕ) (j : Job)
     (of : job_of h t ≡ Some j) where
   -- the job's offset succeeded in the job's epoch
-  pub has_succeeded-success : (e o : ℕ) →
+  has_succeeded-success : (e o : ℕ) →
       has_succeeded (Success t answer ∷ h) j.part e o
       ≡ (((j.epoch == e) && (j.offset == o)) || has_succeeded h j.part e o)
   has_succeeded-success e o = rw of (simp (same_number j.part))

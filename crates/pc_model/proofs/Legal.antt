@@ -93,7 +93,7 @@ Decides-commit given h p position text size =
     (Decides-sized (commit_of given h p) position text size))
 
 -- the test of an event
-pub Decides-is_lawful : (given : Given) (e : Event) (h : List Event) → Decides (is_lawful given e h)
+Decides-is_lawful : (given : Given) (e : Event) (h : List Event) → Decides (is_lawful given e h)
     (IsLawful given e h)
 Decides-is_lawful given (Assign p epoch position text) h =
     Decides-like _ (λ f. record
@@ -141,7 +141,7 @@ Decides-is_lawful given (Failure ticket code ready) h =
     (Decides-and _ _ (Decides-true (is_outstanding h ticket))
     (Decides-and _ _ (Decides-true (is_current_ticket h ticket))
     (Decides-and _ _ (Decides-bad (ticket_outcome given h ticket) code)
-    (Decides-eqb ready (ready_after given.setup.delays (ticket_attempt h ticket) (now_of h))))))
+    (Decides-eqb ready (ready_after given.setup.settings.delays (ticket_attempt h ticket) (now_of h))))))
 Decides-is_lawful given (Stale ticket) h =
     Decides-like _ (λ f. record { outstanding = f.0; past = f.1 }) (λ r. (r.outstanding, r.past))
     (Decides-and _ _ (Decides-true (is_outstanding h ticket))

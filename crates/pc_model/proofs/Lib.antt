@@ -1,6 +1,7 @@
 pub mod BitsLemmas
 pub mod MapRows
 mod RangesLemmas
+pub mod SetupLaws
 pub mod Legal
 pub mod RowsLegal
 pub mod OnLiterals

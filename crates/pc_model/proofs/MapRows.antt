@@ -19,22 +19,22 @@ use Rattle.pc_model.specs.MapReading.{map_reading}
 use Rattle.pc_model.specs.BestMap.{best_map, map_text, shortest_text, text_of}
 
 -- the bits from 10 to 14 with 10 and 12 incomplete
-pub five_bits : best_map (bits_between 10 14 (10 ∷ 12 ∷ [])) 4096 ≡ record { letter = Some 108; text = codes "bAAFGg=="; size = 8 }
+five_bits : best_map (bits_between 10 14 (10 ∷ 12 ∷ [])) 4096 ≡ record { letter = Some 108; text = codes "bAAFGg=="; size = 8 }
 unfolding best_map shortest_text text_of spelling_of base64_on_literals
 five_bits = refl
 
 -- they are read again
-pub five_bits_read : map_reading 10 (codes "bAAFGg==") ≡ Ok (Some (false ∷ true ∷ false ∷ true ∷ true ∷ []))
+five_bits_read : map_reading 10 (codes "bAAFGg==") ≡ Ok (Some (false ∷ true ∷ false ∷ true ∷ true ∷ []))
 unfolding map_reading base64_on_literals
 five_bits_read = refl
 
 -- the bits from 0 to 999 with 0 incomplete
-pub thousand_bits : best_map (bits_between 0 999 (0 ∷ [])) 4096 ≡ record { letter = Some 110; text = codes "bgABA+c="; size = 8 }
+thousand_bits : best_map (bits_between 0 999 (0 ∷ [])) 4096 ≡ record { letter = Some 110; text = codes "bgABA+c="; size = 8 }
 unfolding best_map shortest_text text_of spelling_of base64_on_literals
 thousand_bits = refl
 
 -- the bits from the first of them on, which alone is incomplete
-pub bits_between-first : (low high : ℕ) → low ≤ high → bits_between low high (low ∷ []) ≡ false ∷ replicate (high - low) true
+bits_between-first : (low high : ℕ) → low ≤ high → bits_between low high (low ∷ []) ≡ false ∷ replicate (high - low) true
 bits_between-first low high some =
     let count : high + 1 - low ≡ suc (high - low) = omega arith in
     let is_complete : ℕ → Bool = λ offset. not (list_any (λ i. i == offset) (low ∷ [])) in
@@ -90,7 +90,7 @@ text_of-bitset_2 n large small =
     (map_text 111 bytes, rw (fits, short) refl, omega (arith, count, size, head, body, len))
 
 -- the shortest text is the RunLength with numbers of 32 bits, where those of 16 bits are too small
-pub shortest_text-one_zero : (n : ℕ) → 32767 < n → n < 2147483647
+shortest_text-one_zero : (n : ℕ) → 32767 < n → n < 2147483647
     → shortest_text (one_zero n) ≡ Some (101, map_text 101 (big_bytes 4 1 ++ (big_bytes 4 n ++ [])))
 unfolding shortest_text
 shortest_text-one_zero n large small =
@@ -101,7 +101,7 @@ shortest_text-one_zero n large small =
     rw (text_of-bitset n large, text_of-run n large, long.1, text_of-run_2 n (omega arith) (omega arith), less) refl
 
 -- the bits from 0 to 40,000 with 0 incomplete
-pub forty_thousand_bits : best_map (bits_between 0 40000 (0 ∷ [])) 4096 ≡ record { letter = Some 101; text = codes "ZQAAAAEAAJxA"; size = 12 }
+forty_thousand_bits : best_map (bits_between 0 40000 (0 ∷ [])) 4096 ≡ record { letter = Some 101; text = codes "ZQAAAAEAAJxA"; size = 12 }
 unfolding best_map base64_on_literals
 forty_thousand_bits =
     rw (bits_between-first 0 40000 (lit≤ tt), shortest_text-one_zero 40000 (lit< tt) (lit< tt)) refl

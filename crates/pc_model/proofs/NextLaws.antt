@@ -16,7 +16,7 @@ use Rattle.pc_model.proofs.ListLemmas.{filter-same, list_all-same}
 use Rattle.pc_model.proofs.KnownLaws.{polled_records-same, is_complete-same, is_blocked-same, high_of-same}
 
 -- the first that gives something is the same where each gives the same
-pub first_some-same : {X Y : Type 0} (f g : X → Option Y) → ((x : X) → f x ≡ g x) →
+first_some-same : {X Y : Type 0} (f g : X → Option Y) → ((x : X) → f x ≡ g x) →
     (xs : List X) → first_some f xs ≡ first_some g xs
 first_some-same f g same [] = refl
 first_some-same f g same (x ∷ xs) = rw (same x, first_some-same f g same xs)
@@ -25,29 +25,29 @@ first_some-same f g same (x ∷ xs) = rw (same x, first_some-same f g same xs)
 module _ (given : Given) (p : ℕ) (h k : List Event) (same : SamePart given p h k)
     (busy : (key : OrderingKey) → is_busy given k key ≡ is_busy given h key)
     (now : now_of k ≡ now_of h) where
-  pub failures_of-same : (o : ℕ) → failures_of k p o ≡ failures_of h p o
+  failures_of-same : (o : ℕ) → failures_of k p o ≡ failures_of h p o
   failures_of-same o = rw (same.epoch, same.failures (epoch_of h p) o)
 
-  pub ready_of-same : (o : ℕ) → ready_of k p o ≡ ready_of h p o
+  ready_of-same : (o : ℕ) → ready_of k p o ≡ ready_of h p o
   ready_of-same o = rw (same.epoch, same.ready (epoch_of h p) o)
 
-  pub is_first-same : (r : Record) → is_first given k p r ≡ is_first given h p r
+  is_first-same : (r : Record) → is_first given k p r ≡ is_first given h p r
   unfolding is_first
   is_first-same r = rw (polled_records-same given p h k same)
       (list_all-same _ _ (λ (q : Record). ap (λ c. not (is_before given p q r) || c)
       (is_complete-same given p h k same q.offset)) (polled_records given h p))
 
-  pub is_below_high-same : (o : ℕ) → is_below_high given k p o ≡ is_below_high given h p o
+  is_below_high-same : (o : ℕ) → is_below_high given k p o ≡ is_below_high given h p o
   is_below_high-same o = ap (λ high. option_map_or (nat_lt o) high false)
       (high_of-same given p h k same)
 
-  pub is_eligible_record-same : (r : Record) → is_eligible_record given k p r
+  is_eligible_record-same : (r : Record) → is_eligible_record given k p r
       ≡ is_eligible_record given h p r
   unfolding is_eligible_record
   is_eligible_record-same r = rw (
     is_complete-same given p h k same r.offset,
     busy
-        (ordering_key given.setup.order p r),
+        (ordering_key given.setup.settings.order p r),
     is_first-same r,
     failures_of-same r.offset,
     ready_of-same r.offset,

@@ -8,7 +8,7 @@ use Rattle.pc_model.specs.declared.setup.SetupFault.TheVariants.{PartTwice}
 use Rattle.pc_model.specs.Ranges.{twice_fault}
 
 -- one start more is looked at
-pub twice_fault-step : (starts : List Start) (i : ℕ) (d : Start) → i < length starts →
+twice_fault-step : (starts : List Start) (i : ℕ) (d : Start) → i < length starts →
     twice_fault (take i starts) (drop i starts)
     ≡ (if list_any (λ t. t.part == (get_or starts i d).part) (take i starts) then Some
     (PartTwice (get_or starts i d).part)

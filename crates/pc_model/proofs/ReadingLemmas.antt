@@ -28,7 +28,7 @@ number_fits-lt width n fits =
     rw (pow256 width) (omega (arith, low, most))
 
 -- the number in front of bytes
-pub big_number-front : (width n : ℕ) (bytes : List ℕ) → number_fits width n ≡ true → big_number width (big_bytes width n ++ bytes) ≡ n
+big_number-front : (width n : ℕ) (bytes : List ℕ) → number_fits width n ≡ true → big_number width (big_bytes width n ++ bytes) ≡ n
 big_number-front width n bytes fits = big_number-reads_back width n bytes (number_fits-lt width n fits)
 
 -- ---- BitSet
@@ -52,7 +52,7 @@ bits_in_turn-one_longer bit [] = refl
 bits_in_turn-one_longer bit (n ∷ lengths) = rw (add-one n) refl
 
 -- the bits of the runs are the bits
-pub bits_in_turn-run_lengths_from : (bit : Bool) (bits : List Bool) → bits_in_turn bit (run_lengths_from bit bits) ≡ bits
+bits_in_turn-run_lengths_from : (bit : Bool) (bits : List Bool) → bits_in_turn bit (run_lengths_from bit bits) ≡ bits
 bits_in_turn-run_lengths_from bit [] = refl
 bits_in_turn-run_lengths_from false (false ∷ bits) =
     rw (bits_in_turn-one_longer false (run_lengths_from false bits), bits_in_turn-run_lengths_from false bits) refl
@@ -71,7 +71,7 @@ length-flat_map-big_bytes width (n ∷ numbers) =
     ∙ rw (length-bytes_high_first width n, length-flat_map-big_bytes width numbers) (omega arith)
 
 -- the bytes from a number on
-pub drop-flat_map-big_bytes : (width i : ℕ) (numbers : List ℕ) → drop (width * i) (flat_map (big_bytes width) numbers) ≡ flat_map (big_bytes width) (drop i numbers)
+drop-flat_map-big_bytes : (width i : ℕ) (numbers : List ℕ) → drop (width * i) (flat_map (big_bytes width) numbers) ≡ flat_map (big_bytes width) (drop i numbers)
 drop-flat_map-big_bytes width i [] = drop_all (width * i) [] (omega arith) ∙ sym (ap (flat_map (big_bytes width)) (drop_all i [] (omega arith)))
 drop-flat_map-big_bytes width zero (n ∷ numbers) = rw mul-zero refl
 drop-flat_map-big_bytes width (suc i) (n ∷ numbers) =
@@ -79,7 +79,7 @@ drop-flat_map-big_bytes width (suc i) (n ∷ numbers) =
     rw (place, drop-append-add (big_bytes width n) (flat_map (big_bytes width) numbers) (width * i)) (drop-flat_map-big_bytes width i numbers)
 
 -- the numbers in the bytes of numbers
-pub numbers_in-flat_map : (width : ℕ) (numbers : List ℕ) → 0 < width → list_all (number_fits width) numbers ≡ true
+numbers_in-flat_map : (width : ℕ) (numbers : List ℕ) → 0 < width → list_all (number_fits width) numbers ≡ true
     → numbers_in width (flat_map (big_bytes width) numbers) ≡ numbers
 numbers_in-flat_map width numbers pos fit =
     let count : length (flat_map (big_bytes width) numbers) / width ≡ length numbers =

@@ -7,7 +7,7 @@ use Rattle.pc_model.specs.Jobs.{Job, job_of}
 use Rattle.pc_model.specs.Retry.{count_one, now_of, failures_in, ready_in}
 use Rattle.pc_model.proofs.ListLemmas.{same_number}
 
-pub now_of-tick : (h : List Event) (now : ℕ) → now_of (Tick now ∷ h) ≡ now
+now_of-tick : (h : List Event) (now : ℕ) → now_of (Tick now ∷ h) ≡ now
 now_of-tick h now = refl
 
 count_one-cond : (b : Bool) (x n : ℕ) → count_one (if b then Some x else None) n
@@ -29,7 +29,7 @@ module _ (h : List Event) (t code ready : ℕ) (j : Job) (of : job_of h t ≡ So
       (simp (same_number j.part)
       (count_one-cond ((j.epoch == e) && (j.offset == o)) ready (failures_in h j.part e o)))
 
-  pub ready_in-failure : (e o : ℕ) → ready_in (Failure t code ready ∷ h) j.part e o
+  ready_in-failure : (e o : ℕ) → ready_in (Failure t code ready ∷ h) j.part e o
       ≡ (if (j.epoch == e) && (j.offset == o) then ready else ready_in h j.part e o)
   ready_in-failure e o = rw of
       (simp (same_number j.part)

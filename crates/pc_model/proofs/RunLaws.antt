@@ -16,17 +16,17 @@ use Rattle.pc_model.specs.OneMore.{SamePart}
 use Rattle.pc_model.proofs.ListLemmas.{list_any-same, list_all-same}
 use Rattle.pc_model.proofs.KnownLaws.{unpolled_records-same, is_blocked-same, high_of-same, is_stored-same, open_records-same}
 
-pub success_count-success : (h : List Event) (t : ℕ) (answer : List ℕ) → success_count
+success_count-success : (h : List Event) (t : ℕ) (answer : List ℕ) → success_count
     (Success t answer ∷ h) ≡ success_count h + 1
 success_count-success h t answer = refl
 
 -- a part of which the same is said in two histories
 module _ (given : Given) (p : ℕ) (h k : List Event) (same : SamePart given p h k) where
-  pub is_upto_high-same : (o : ℕ) → is_upto_high given k p o ≡ is_upto_high given h p o
+  is_upto_high-same : (o : ℕ) → is_upto_high given k p o ≡ is_upto_high given h p o
   is_upto_high-same o = ap (λ high. option_map_or (nat_le o) high false)
       (high_of-same given p h k same)
 
-  pub is_commit_due-same : is_commit_due given k p ≡ is_commit_due given h p
+  is_commit_due-same : is_commit_due given k p ≡ is_commit_due given h p
   is_commit_due-same = rw (
     same.held,
     same.epoch,
@@ -35,7 +35,7 @@ module _ (given : Given) (p : ℕ) (h k : List Event) (same : SamePart given p h
     is_blocked-same given p h k same,
   )
 
-  pub is_unsaved-same : is_unsaved given k p ≡ is_unsaved given h p
+  is_unsaved-same : is_unsaved given k p ≡ is_unsaved given h p
   is_unsaved-same = rw (
     same.held,
     is_stored-same given p h k same,
@@ -44,10 +44,10 @@ module _ (given : Given) (p : ℕ) (h k : List Event) (same : SamePart given p h
         (epoch_of h p),
   )
 
-  pub is_spent-same : (r : Record) → is_spent given k p r ≡ is_spent given h p r
+  is_spent-same : (r : Record) → is_spent given k p r ≡ is_spent given h p r
   is_spent-same r = rw (same.epoch, same.failures (epoch_of h p) r.offset)
 
-  pub is_given_up-same : (r : Record) → is_given_up given k p r ≡ is_given_up given h p r
+  is_given_up-same : (r : Record) → is_given_up given k p r ≡ is_given_up given h p r
   unfolding is_given_up
   is_given_up-same r = rw (
     is_spent-same r,

@@ -11,7 +11,7 @@ use Rattle.pc_model.specs.Bits.{AreRuns, bits_of, zero_runs}
 use Rattle.pc_model.specs.MapSpelling.{run_lengths, run_lengths_from}
 
 -- the bits do not begin with this bit
-abbrev pub BeginsApart : Bool → List Bool → Type 0
+abbrev BeginsApart : Bool → List Bool → Type 0
 BeginsApart bit [] = Unit {0}
 BeginsApart true (true ∷ bits) = ⊥
 BeginsApart true (false ∷ bits) = Unit {0}

@@ -10,7 +10,7 @@ use Rattle.pc_model.specs.Known.{is_job_at}
 use Rattle.pc_model.specs.OneMore.{is_job_of_part, touches, SamePart}
 
 -- a job of another part is at none of the part's offsets
-pub is_job_at-other : (j : Option Job) (p e o : ℕ) → is_job_of_part j p ≡ false → is_job_at j p e o
+is_job_at-other : (j : Option Job) (p e o : ℕ) → is_job_of_part j p ≡ false → is_job_at j p e o
     ≡ false
 is_job_at-other None p e o apart = refl
 is_job_at-other (Some j) p e o apart = simp apart
@@ -22,7 +22,7 @@ is_success_of-other None p e apart = refl
 is_success_of-other (Some j) p e apart = simp apart
 
 -- a history is as it is
-pub SamePart-refl : (given : Given) (p : ℕ) (h : List Event) → SamePart given p h h
+SamePart-refl : (given : Given) (p : ℕ) (h : List Event) → SamePart given p h h
 SamePart-refl given p h = record {
   epoch = refl;
   held = refl;
@@ -38,7 +38,7 @@ SamePart-refl given p h = record {
   unstored = λ e. refl;
 }
 
-pub SamePart-trans : {given : Given} {p : ℕ} {h k l : List Event} → SamePart given p h k →
+SamePart-trans : {given : Given} {p : ℕ} {h k l : List Event} → SamePart given p h k →
     SamePart given p k l → SamePart given p h l
 SamePart-trans f g = record {
   epoch = g.epoch ∙ f.epoch;

@@ -27,42 +27,42 @@ module _ (given : Given) (h : List Event) (p position : ℕ) (text : List ℕ) w
   may_store-commit_failed size = simp (same_number p)
 
 module _ (h : List Event) (p position : ℕ) (text : List ℕ) where
-  pub last_size-assign : (epoch : ℕ) → last_size (Assign p epoch position text ∷ h) p ≡ None
+  last_size-assign : (epoch : ℕ) → last_size (Assign p epoch position text ∷ h) p ≡ None
   last_size-assign epoch = simp (same_number p)
 
-  pub last_size-commit : (size : ℕ) → last_size (Committed p position text size ∷ h) p ≡ Some size
+  last_size-commit : (size : ℕ) → last_size (Committed p position text size ∷ h) p ≡ Some size
   last_size-commit size = simp (same_number p)
 
-  pub last_size-commit_failed : (size : ℕ) → last_size (CommitFailed p position text size ∷ h) p
+  last_size-commit_failed : (size : ℕ) → last_size (CommitFailed p position text size ∷ h) p
       ≡ Some size
   last_size-commit_failed size = simp (same_number p)
 
-  pub new_successes-assign : (epoch e : ℕ) → new_successes (Assign p epoch position text ∷ h) p e
+  new_successes-assign : (epoch e : ℕ) → new_successes (Assign p epoch position text ∷ h) p e
       ≡ 0
   new_successes-assign epoch e = simp (same_number p)
 
-  pub new_successes-commit : (size e : ℕ) → new_successes (Committed p position text size ∷ h) p e
+  new_successes-commit : (size e : ℕ) → new_successes (Committed p position text size ∷ h) p e
       ≡ 0
   new_successes-commit size e = simp (same_number p)
 
-  pub new_successes-commit_failed : (size e : ℕ) → new_successes
+  new_successes-commit_failed : (size e : ℕ) → new_successes
       (CommitFailed p position text size ∷ h) p e ≡ 0
   new_successes-commit_failed size e = simp (same_number p)
 
-  pub has_unstored_success-assign : (epoch e : ℕ) → has_unstored_success
+  has_unstored_success-assign : (epoch e : ℕ) → has_unstored_success
       (Assign p epoch position text ∷ h) p e ≡ false
   has_unstored_success-assign epoch e = simp (same_number p)
 
-  pub has_unstored_success-commit : (size e : ℕ) → has_unstored_success
+  has_unstored_success-commit : (size e : ℕ) → has_unstored_success
       (Committed p position text size ∷ h) p e ≡ false
   has_unstored_success-commit size e = simp (same_number p)
 
 -- a success of a job in its epoch is one more that is not stored yet
 module _ (h : List Event) (t : ℕ) (answer : List ℕ) (j : Job) (of : job_of h t ≡ Some j) where
-  pub new_successes-success : new_successes (Success t answer ∷ h) j.part j.epoch
+  new_successes-success : new_successes (Success t answer ∷ h) j.part j.epoch
       ≡ new_successes h j.part j.epoch + 1
   new_successes-success = rw of (simp (same_number j.part, same_number j.epoch))
 
-  pub has_unstored_success-success : has_unstored_success (Success t answer ∷ h) j.part j.epoch
+  has_unstored_success-success : has_unstored_success (Success t answer ∷ h) j.part j.epoch
       ≡ true
   has_unstored_success-success = rw of (simp (same_number j.part, same_number j.epoch))

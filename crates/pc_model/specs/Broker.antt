@@ -7,7 +7,8 @@ use Rattle.std.specs.Option.{option_map}
 use Rattle.std.specs.Int.{w16, cast_signed}
 use Rattle.std.specs.Ordering.{int_eq}
 use Rattle.byteorder.specs.Endian.{big_number}
-use Rattle.pc_model.specs.declared.api.TheConstants.{OFFSET_FETCH, NO_ERROR, UNKNOWN_TOPIC_OR_PARTITION, OFFSET_METADATA_TOO_LARGE, ILLEGAL_GENERATION, UNKNOWN_MEMBER_ID, METADATA_MAX}
+use Rattle.pc_model.specs.declared.api.TheConstants.{OFFSET_FETCH, NO_ERROR, UNKNOWN_TOPIC_OR_PARTITION, OFFSET_METADATA_TOO_LARGE, ILLEGAL_GENERATION, UNKNOWN_MEMBER_ID}
+use Rattle.pc_model.specs.declared.limits.TheConstants.{MAX_METADATA_BYTES}
 use Rattle.pc_model.specs.declared.commit.Commit.{Commit}
 use Rattle.pc_model.specs.declared.wire_fault.WireFault.{WireFault}
 use Rattle.pc_model.specs.Messages.{Topic, CommitItem, CommitRequest, CommitReply, FetchRequest, FetchEntry, FetchReply, frame_spelling, commit_reply_body, fetch_reply_body}
@@ -94,7 +95,7 @@ metadata_text metadata = unwrap_or metadata []
 abbrev pub place_code : Broker → List ℕ → CommitItem → ℤ
 place_code b name item =
     if not (has_part b name item.part) then UNKNOWN_TOPIC_OR_PARTITION
-    else if nat_lt METADATA_MAX (length (metadata_text item.metadata))
+    else if nat_lt MAX_METADATA_BYTES (length (metadata_text item.metadata))
     then OFFSET_METADATA_TOO_LARGE
     else NO_ERROR
 

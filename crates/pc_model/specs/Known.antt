@@ -92,4 +92,4 @@ position_of given h p = position_at (begin_of h p) (marks_of given h p)
 
 -- the commit of the part as it stands
 abbrev pub commit_of : Given → List Event → ℕ → SizedCommit
-commit_of given h p = commit_at given.setup.map_limit (begin_of h p) (marks_of given h p)
+commit_of given h p = commit_at given.setup.settings.map_limit (begin_of h p) (marks_of given h p)

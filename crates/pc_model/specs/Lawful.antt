@@ -58,7 +58,7 @@ pub record FailureIsLawful (given : Given) (h : List Event) (ticket code ready :
   pub outstanding : is_outstanding h ticket ≡ true
   pub current : is_current_ticket h ticket ≡ true
   pub outcome : ticket_outcome given h ticket ≡ Some (Bad code)
-  pub ready_is : ready ≡ ready_after given.setup.delays (ticket_attempt h ticket) (now_of h)
+  pub ready_is : ready ≡ ready_after given.setup.settings.delays (ticket_attempt h ticket) (now_of h)
 
 -- a stale result may come: the ticket is outstanding, and its epoch is over
 pub record StaleIsLawful (h : List Event) (ticket : ℕ) : Type 0 where

@@ -42,7 +42,7 @@ same_key _ _ = false
 
 -- the ordering key of a job's record, if the log has it
 abbrev pub job_key : Given → Job → Option OrderingKey
-job_key given j = option_map (ordering_key given.setup.order j.part)
+job_key given j = option_map (ordering_key given.setup.settings.order j.part)
     (record_at given j.part j.offset)
 
 -- whether the job's record has this ordering key
@@ -56,7 +56,7 @@ is_busy given h key = list_any (λ j. is_current h j && has_key given key j) (op
 -- whether the first record stands before the second and shares its ordering key
 abbrev pub is_before : Given → ℕ → Record → Record → Bool
 is_before given p q r = nat_lt q.offset r.offset
-    && same_key (ordering_key given.setup.order p q) (ordering_key given.setup.order p r)
+    && same_key (ordering_key given.setup.settings.order p q) (ordering_key given.setup.settings.order p r)
 
 -- whether every earlier polled record of the record's ordering key is complete
 unfoldable pub is_first : Given → List Event → ℕ → Record → Bool
@@ -68,9 +68,9 @@ is_first given h p r = list_all (λ q. not (is_before given p q r) || is_complet
 -- and under pressure it lies below the part's high
 unfoldable pub is_eligible_record : Given → List Event → ℕ → Record → Bool
 is_eligible_record given h p r = not (is_complete h p r.offset)
-    && not (is_busy given h (ordering_key given.setup.order p r))
+    && not (is_busy given h (ordering_key given.setup.settings.order p r))
     && is_first given h p r
-    && nat_lt (failures_of h p r.offset) given.setup.give_up
+    && nat_lt (failures_of h p r.offset) given.setup.settings.give_up
     && nat_le (ready_of h p r.offset) (now_of h)
     && (not (is_blocked given h p) || is_below_high given h p r.offset)
 

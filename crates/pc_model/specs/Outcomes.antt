@@ -34,7 +34,7 @@ outcome_of rules p r attempt = if option_map_or (λ f. nat_le attempt f.times)
 
 -- the outcome of a job's attempt, if its record is in the log
 abbrev pub job_outcome : Given → Job → Option Outcome
-job_outcome given j = option_map (λ r. outcome_of given.setup.rules j.part r j.attempt)
+job_outcome given j = option_map (λ r. outcome_of given.setup.settings.rules j.part r j.attempt)
     (record_at given j.part j.offset)
 
 -- the outcome of a ticket's attempt, if it was dispatched

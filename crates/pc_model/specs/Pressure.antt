@@ -23,7 +23,7 @@ last_size (e ∷ h) p = if is_some (assigned_by e p) then None else option_or (s
 -- whether that size takes more than its share of the limit
 abbrev pub is_blocked : Given → List Event → ℕ → Bool
 is_blocked given h p =
-    option_map_or (λ size. is_pressed size given.setup.map_limit given.setup.press_percent)
+    option_map_or (λ size. is_pressed size given.setup.settings.map_limit given.setup.settings.press_percent)
     (last_size h p) false
 
 -- whether the offset lies below the part's greatest complete one

@@ -2,14 +2,14 @@
 -- first.
 use Rattle.std.specs.Prelude.{ℕ, pos, Bool, true, not, List, [], ◌∷◌, take, reverse, codes, Some, refl}
 use Rattle.std.specs.List.{list_all}
-use Rattle.pc_model.specs.declared.choices.Order.TheVariants.{None as NoOrder, Partition}
+use Rattle.pc_model.specs.declared.choices.Order.TheVariants.{Partition}
 use Rattle.pc_model.specs.declared.choices.Work.TheVariants.{Length}
-use Rattle.pc_model.specs.declared.choices.BadMapRule.TheVariants.{Redo}
 use Rattle.pc_model.specs.declared.setup.Setup.{Setup}
 use Rattle.pc_model.specs.declared.event.Event.{Event}
 use Rattle.pc_model.specs.declared.event.Event.TheVariants.{Assign, Poll, Dispatch, Success, Failure, Stale, Commit, CommitFailed, Revoke, Lost, Crash, Tick, Drain, Done, Closed}
 use Rattle.pc_model.specs.Record.{Record}
 use Rattle.pc_model.specs.Given.{Given}
+use Rattle.pc_model.specs.Defaults.{default_settings}
 use Rattle.pc_model.specs.Ranges.{settings_fault}
 use Rattle.pc_model.specs.Test.{is_legal}
 
@@ -26,63 +26,24 @@ row_log = row_record 0 (codes "a") (codes "x") ∷ row_record 1 (codes "b") (cod
 -- the default setup
 unfoldable pub plain_setup : Setup
 unfolding settings_fault
-plain_setup = record {
-  order = NoOrder;
-  rules = record { work = Length; fails = [] };
-  map_limit = 4096;
-  press_percent =
-      75;
-  delays = 100 ∷ [];
-  give_up = 10;
-  buffer = 5000;
-  poll_max = 500;
-  commit_every = 1000;
-  bad_map = Redo;
-  starts =
-      [];
-  in_range = refl;
-}
+plain_setup = record { settings = default_settings; in_range = refl }
 
 -- the records of a part run one after the other, and the first one fails twice
 unfoldable pub retry_setup : Setup
 unfolding settings_fault
 retry_setup = record {
-  order = Partition;
-  rules = record
-      { work = Length; fails = record { part = 0; offset = 0; times = 2 } ∷ [] };
-  map_limit =
-      4096;
-  press_percent = 75;
-  delays = 100 ∷ [];
-  give_up = 10;
-  buffer = 5000;
-  poll_max = 500;
-  commit_every
-      = 1000;
-  bad_map = Redo;
-  starts = [];
+  settings = record default_settings {
+    order = Partition;
+    rules = record
+        { work = Length; fails = record { part = 0; offset = 0; times = 2 } ∷ [] };
+  };
   in_range = refl;
 }
 
 -- a map of eight characters is above its share of the limit
 unfoldable pub pressed_setup : Setup
 unfolding settings_fault
-pressed_setup = record {
-  order = NoOrder;
-  rules = record { work = Length; fails = [] };
-  map_limit = 8;
-  press_percent =
-      75;
-  delays = 100 ∷ [];
-  give_up = 10;
-  buffer = 5000;
-  poll_max = 500;
-  commit_every = 1000;
-  bad_map = Redo;
-  starts =
-      [];
-  in_range = refl;
-}
+pressed_setup = record { settings = record default_settings { map_limit = 8 }; in_range = refl }
 
 -- the log as part 0 under a setup, nothing stored before, over a link that tells its store
 abbrev pub row_given : Setup → Given

@@ -30,8 +30,8 @@ unfoldable pub poll_number : Given → List Event → ℕ → Option ℕ
 poll_number given h p =
     if is_held h p && not (is_draining h) && may_poll_next given h p
     (slice_get (unpolled_records given h p) 0)
-    && nat_lt (length (open_records given h p)) given.setup.buffer
-    then Some (min given.setup.poll_max (given.setup.buffer - length (open_records given h p)))
+    && nat_lt (length (open_records given h p)) given.setup.settings.buffer
+    then Some (min given.setup.settings.poll_max (given.setup.settings.buffer - length (open_records given h p)))
     else None
 
 -- whether this event is an assignment or a commit of the part, stored or failed
@@ -58,7 +58,7 @@ new_successes (e ∷ h) p epoch = if is_commit_or_assign e p then 0
 -- one
 abbrev pub is_commit_due : Given → List Event → ℕ → Bool
 is_commit_due given h p = is_held h p
-    && (nat_le given.setup.commit_every (new_successes h p (epoch_of h p))
+    && (nat_le given.setup.settings.commit_every (new_successes h p (epoch_of h p))
     || (is_blocked given h p && nat_lt 0 (new_successes h p (epoch_of h p))))
 
 -- whether this event stores a commit of the part for certain
@@ -81,7 +81,7 @@ is_unsaved given h p = is_held h p
 
 -- whether the record failed as often as it may
 abbrev pub is_spent : Given → List Event → ℕ → Record → Bool
-is_spent given h p r = nat_le given.setup.give_up (failures_of h p r.offset)
+is_spent given h p r = nat_le given.setup.settings.give_up (failures_of h p r.offset)
 
 -- whether an open record is given up: it is spent, or an earlier open record of its ordering key
 -- is, or its part is blocked and it lies above the part's high

@@ -63,7 +63,7 @@ are_earlier_done given h p epoch r = list_all
 -- earlier records of that key are done
 pub record DispatchIsOrderly (given : Given) (h : List Event) (p epoch : ℕ) (r : Record)
     : Type 0 where
-  pub alone : list_any (λ j. is_current h j && has_key given (ordering_key given.setup.order p r) j)
+  pub alone : list_any (λ j. is_current h j && has_key given (ordering_key given.setup.settings.order p r) j)
       (open_jobs h) ≡ false
   pub in_order : are_earlier_done given h p epoch r ≡ true
 

@@ -67,7 +67,7 @@ is_lawful given (Success ticket answer) h = is_outstanding h ticket && (is_curre
 is_lawful given (Failure ticket code ready) h = is_outstanding h ticket
     && (is_current_ticket h ticket
     && (is_bad (ticket_outcome given h ticket) code
-    && (ready == ready_after given.setup.delays (ticket_attempt h ticket) (now_of h))))
+    && (ready == ready_after given.setup.settings.delays (ticket_attempt h ticket) (now_of h))))
 is_lawful given (Stale ticket) h = is_outstanding h ticket && not (is_current_ticket h ticket)
 is_lawful given (Committed p position text size) h = is_commit_lawful given h p position text size
 is_lawful given (CommitFailed p position text size) h =

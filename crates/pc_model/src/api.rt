@@ -19,7 +19,7 @@ pub const NO_ERROR: i16 = 0;
 /// The broker has no such topic, or the topic no such part.
 pub const UNKNOWN_TOPIC_OR_PARTITION: i16 = 3;
 
-/// The metadata of a commit has more than `METADATA_MAX` bytes.
+/// The metadata of a commit has more than `MAX_METADATA_BYTES` bytes.
 pub const OFFSET_METADATA_TOO_LARGE: i16 = 12;
 
 /// The group has another generation than the request.
@@ -27,6 +27,3 @@ pub const ILLEGAL_GENERATION: i16 = 22;
 
 /// The group has a generation, and the member is none of its members.
 pub const UNKNOWN_MEMBER_ID: i16 = 25;
-
-/// The most bytes that the metadata of a stored commit has.
-pub const METADATA_MAX: usize = 4_096;

@@ -11,6 +11,7 @@ mod commit;
 mod event;
 pub mod evidence;
 mod journal;
+pub mod limits;
 mod lists;
 mod map_fault;
 mod map_letter;

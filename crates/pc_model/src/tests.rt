@@ -138,7 +138,7 @@ fn every_field_has_its_range(rt: HostRuntime) -> Result<(), Fail> {
 #[test]
 fn memory_is_found(rt: HostRuntime) -> Result<(), Fail> {
     let setup = Setup::with_defaults(rt.alloc())?;
-    assert_eq!(rt; setup.delays.as_slice(), [100].as_slice());
+    assert_eq!(rt; setup.settings.delays.as_slice(), [100].as_slice());
     assert_eq!(rt; KeyText::from_str(rt.alloc(), "order")?.as_str(), "order");
     assert_eq!(rt; NameText::from_str(rt.alloc(), "a.log")?.as_str(), "a.log");
     let answer = Answer::from_slice(rt.alloc(), b"1")?;

@@ -17,7 +17,8 @@ use Rattle.std.specs.List.{list_all}
 use Rattle.std.proofs.lemmas.Str.Ascii.{IsAscii-nil}
 use Rattle.std.specs.Str.{IsAscii}
 use Rattle.pc_model.specs.declared.commit.Commit.{Commit}
-use Rattle.pc_model.specs.declared.api.TheConstants.{NO_ERROR, UNKNOWN_TOPIC_OR_PARTITION, OFFSET_METADATA_TOO_LARGE, ILLEGAL_GENERATION, UNKNOWN_MEMBER_ID, METADATA_MAX}
+use Rattle.pc_model.specs.declared.api.TheConstants.{NO_ERROR, UNKNOWN_TOPIC_OR_PARTITION, OFFSET_METADATA_TOO_LARGE, ILLEGAL_GENERATION, UNKNOWN_MEMBER_ID}
+use Rattle.pc_model.specs.declared.limits.TheConstants.{MAX_METADATA_BYTES}
 use Rattle.pc_model.specs.declared.wire_fault.WireFault.{WireFault}
 use Rattle.pc_model.specs.Messages.{Topic, CommitItem, CommitRequest, FetchRequest, IsString, IsTopic, AreTopics, IsCommitRequest, IsCommitReply, IsEntry, IsFetchRequest, IsFetchReply, FetchEntry, commit_request_body, fetch_request_body, frame_spelling}
 use Rattle.pc_model.specs.MessageReading.{commit_reply_reading, fetch_reply_reading}
@@ -43,25 +44,25 @@ are-ascii (b ∷ bs) all (suc i) = are-ascii bs (and-both (nat_lt b 128) _ all).
 ascii-text : (bs : List ℕ) → list_all (λ b. nat_lt b 128) bs ≡ true → is_utf8 bs ≡ true
 ascii-text bs all = is_utf8-from_IsUtf8 bs (IsUtf8-from_ascii bs (are-ascii bs all))
 
-pub group-string : IsString GROUP
+group-string : IsString GROUP
 group-string = record { short = omega arith; utf8 = ascii-text _ refl }
 
-pub topic-string : IsString TOPIC
+topic-string : IsString TOPIC
 topic-string = record { short = omega arith; utf8 = ascii-text _ refl }
 
-pub client-string : IsString CLIENT
+client-string : IsString CLIENT
 client-string = record { short = omega arith; utf8 = ascii-text _ refl }
 
-pub member-string : IsString []
+member-string : IsString []
 member-string = record { short = omega arith; utf8 = ascii-text _ refl }
 
-pub body-length : (id : ℤ) (part : ℕ) (c : Commit) → length (commit_request_body (commit_question id part c)) ≡ 61 + length c.map
+body-length : (id : ℤ) (part : ℕ) (c : Commit) → length (commit_request_body (commit_question id part c)) ≡ 61 + length c.map
 body-length id part c = rw (append-nil c.map, append-nil c.map) (omega arith)
 
-pub fetch-body-length : (id : ℤ) (part : ℕ) → length (fetch_request_body (fetch_question id part)) ≡ 37
+fetch-body-length : (id : ℤ) (part : ℕ) → length (fetch_request_body (fetch_question id part)) ≡ 37
 fetch-body-length id part = refl
 
-pub question-fits : (id : ℤ) (part : ℕ) (c : Commit) → FitsSigned w32 id → part < 2 ^ 31 → c.position < 2 ^ 63
+question-fits : (id : ℤ) (part : ℕ) (c : Commit) → FitsSigned w32 id → part < 2 ^ 31 → c.position < 2 ^ 63
     → length c.map < 2 ^ 15 → is_utf8 c.map ≡ true
     → IsCommitRequest (frame_spelling (commit_request_body (commit_question id part c))) (commit_question id part c)
 question-fits id part c id_fits part_fits position_fits short utf8 = record {
@@ -94,7 +95,7 @@ question-fits id part c id_fits part_fits position_fits short utf8 = record {
   spelled = record { short = omega (arith, body-length id part c); is = refl };
 }
 
-pub fetch_question-fits : (id : ℤ) (part : ℕ) → FitsSigned w32 id → part < 2 ^ 31
+fetch_question-fits : (id : ℤ) (part : ℕ) → FitsSigned w32 id → part < 2 ^ 31
     → IsFetchRequest (frame_spelling (fetch_request_body (fetch_question id part))) (fetch_question id part)
 fetch_question-fits id part id_fits part_fits = record {
   correlation = id_fits;
@@ -160,7 +161,7 @@ fetch_question-fits_by id part x x_is id_fits part_fits =
 
 -- ---- the faults of an answer are those of a reply
 
-abbrev pub IsReplyFault : {A : Type 0} → Result A ClientFault → Type 0
+abbrev IsReplyFault : {A : Type 0} → Result A ClientFault → Type 0
 IsReplyFault (Err LinkFailed) = ⊥
 IsReplyFault (Err NoMemory) = ⊥
 IsReplyFault r = ⊤
@@ -199,7 +200,7 @@ only_item-fault topics = bind-fault (only_one topics) _ (only_one-fault topics)
     (λ topic. bind-fault (same_topic topic.name) _ (other-fault (bytes_eq topic.name TOPIC) tt (pos 0) (pos 1))
     (λ named. only_one-fault topic.items))
 
-pub commit_answer-fault : (id : ℤ) (part : ℕ) (bytes : List ℕ) → IsReplyFault (commit_answer id part bytes)
+commit_answer-fault : (id : ℤ) (part : ℕ) (bytes : List ℕ) → IsReplyFault (commit_answer id part bytes)
 unfolding commit_answer
 commit_answer-fault id part bytes = bind-fault (reply_of (commit_reply_reading bytes)) _ (reply-fault (commit_reply_reading bytes))
     (λ reply. bind-fault (same id reply.correlation) _ (other-fault (int_eq id reply.correlation) tt id reply.correlation)
@@ -207,7 +208,7 @@ commit_answer-fault id part bytes = bind-fault (reply_of (commit_reply_reading b
     (λ item. bind-fault (same (pos part) item.part) _ (other-fault (int_eq (pos part) item.part) tt (pos part) item.part)
     (λ b. accepted-fault (int_eq item.code NO_ERROR) item.code))))
 
-pub fetch_answer-fault : (id : ℤ) (part : ℕ) (bytes : List ℕ) → IsReplyFault (fetch_answer id part bytes)
+fetch_answer-fault : (id : ℤ) (part : ℕ) (bytes : List ℕ) → IsReplyFault (fetch_answer id part bytes)
 unfolding fetch_answer
 fetch_answer-fault id part bytes = bind-fault (reply_of (fetch_reply_reading bytes)) _ (reply-fault (fetch_reply_reading bytes))
     (λ reply. bind-fault (same id reply.correlation) _ (other-fault (int_eq id reply.correlation) tt id reply.correlation)
@@ -239,7 +240,7 @@ step-of true text reply after b' is = (
 )
 step-of false text reply after b' is = absurd (true≢false (ap is_err is))
 
-pub is_step : (b b' : Broker) (r : Request) (reply : List ℕ) → step_of b (Ok r) ≡ Ok (reply, b') → IsStep b b' r reply
+is_step : (b b' : Broker) (r : Request) (reply : List ℕ) → step_of b (Ok r) ≡ Ok (reply, b') → IsStep b b' r reply
 is_step b b' r reply is =
     let parts = step-of (nat_lt (length (reply_body b r)) (2 ^ 31)) (frame_spelling (reply_body b r)) reply (after_request r b) b' is in
     record { short = ltb-true _ _ parts.0; is = parts.1; after = parts.2 }
@@ -268,7 +269,7 @@ refused-fits (Some m) member generation code fits = member-fits
 
 pub code-fits : (b : Broker) (r : CommitRequest) (name : List ℕ) (item : CommitItem) → FitsSigned w16 (item_code b r name item)
 code-fits b r name item = refused-fits (membership_of b r.group) r.member r.generation _
-    (place-fits (has_part b name item.part) (nat_lt METADATA_MAX (length (metadata_text item.metadata))))
+    (place-fits (has_part b name item.part) (nat_lt MAX_METADATA_BYTES (length (metadata_text item.metadata))))
 
 -- ---- a commit over a broker that tells what it stores
 
@@ -332,7 +333,7 @@ code-accepted b b' part c code is after = elim (cases_Bool (int_eq code NO_ERROR
   })
 ]
 
-pub commit-told : (b b' : Broker) (id : ℤ) (part : ℕ) (c : Commit) (frame reply : List ℕ) → FitsSigned w32 id → part < 2 ^ 31
+commit-told : (b b' : Broker) (id : ℤ) (part : ℕ) (c : Commit) (frame reply : List ℕ) → FitsSigned w32 id → part < 2 ^ 31
     → IsCommitRequest frame (commit_question id part c) → broker_step b frame ≡ Ok (reply, b')
     → CommitGives b b' part c (commit_answer id part reply)
 unfolding the_code
@@ -365,7 +366,7 @@ one-or-none b b' part c code is after = elim (cases_Bool (int_eq code NO_ERROR))
 read-once : (r s : Request) → ◌≡◌ {A = Result Request WireFault} (Ok r) (Ok s) → r ≡ s
 read-once r s is = cc
 
-pub commit-may_store : (b b' : Broker) (id : ℤ) (part : ℕ) (c : Commit) (frame : List ℕ)
+commit-may_store : (b b' : Broker) (id : ℤ) (part : ℕ) (c : Commit) (frame : List ℕ)
     → IsCommitRequest frame (commit_question id part c) → MayStore (request_reading frame) b b'
     → (b' ≡ b) ⊎ Accepts b b' part c
 unfolding the_code
@@ -468,7 +469,7 @@ entry-gives b part false stored known_is stored_is = (known_is, refl)
 entry-gives b part true None known_is stored_is = (known_is, sym stored_is)
 entry-gives b part true (Some c) known_is stored_is = (known_is, rw (none-below c.position) (sym stored_is))
 
-pub fetch-told : (b b' : Broker) (id : ℤ) (part : ℕ) (frame reply : List ℕ) → FitsSigned w32 id → part < 2 ^ 31 → AreStorable b
+fetch-told : (b b' : Broker) (id : ℤ) (part : ℕ) (frame reply : List ℕ) → FitsSigned w32 id → part < 2 ^ 31 → AreStorable b
     → IsFetchRequest frame (fetch_question id part) → broker_step b frame ≡ Ok (reply, b')
     → FetchGives b part (fetch_answer id part reply) × (b' ≡ b)
 unfolding the_entry
@@ -481,7 +482,7 @@ fetch-told b b' id part frame reply id_fits part_fits storable asked stepped =
       step.after,
     )
 
-pub fetch-may_store : (b b' : Broker) (id : ℤ) (part : ℕ) (frame : List ℕ)
+fetch-may_store : (b b' : Broker) (id : ℤ) (part : ℕ) (frame : List ℕ)
     → IsFetchRequest frame (fetch_question id part) → MayStore (request_reading frame) b b' → b' ≡ b
 fetch-may_store b b' id part frame asked may =
     let read = fetches-read frame (fetch_question id part) asked in

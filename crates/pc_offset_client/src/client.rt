@@ -2,7 +2,7 @@
 
 ghost use Rattle.std.specs.Prelude.{◌≡◌, ◌≤◌, ◌<◌, ◌^◌, ◌⊎◌, pos, true, Ok, Err, IfErr, IfOk, IsOk, OnOk, int_lt, length};
 ghost use Rattle.pc_model.specs.Broker.{broker_step, request_reading};
-ghost use Rattle.pc_world.specs.declared.link.TheConstants.{FRAME_BYTES_MAX};
+ghost use Rattle.pc_world.specs.declared.link.TheConstants.{MAX_FRAME_BYTES};
 ghost use Rattle.pc_world.specs.World.{AreStorable, HasRisen, MayStore};
 ghost use Rattle.pc_offset_client.specs.Client.{CommitGives, FetchGives, IsAnswer, IsFrameCommit, commit_answer, fetch_answer};
 ghost use Rattle.pc_offset_client.specs.declared.fault.ClientFault.TheVariants.{LinkFailed, NoMemory};
@@ -112,7 +112,7 @@ impl<L: Link> Client<L> {
 
     /// Sends the frame that was written with the next id.
     fn send(&mut self, frame: &[u8]) -> Result<Vec<u8>, ClientFault>
-        requires short { length frame.now ≤ FRAME_BYTES_MAX }
+        requires short { length frame.now ≤ MAX_FRAME_BYTES }
         requires reads { IsOk (request_reading frame.now) }
         ensures answered { L.is_told self.old.link ≡ true → IfOk result (λ reply. broker_step
             (L.store self.old.link) frame.now ≡ Ok (reply.items, L.store self.new.link)) }

@@ -2,7 +2,7 @@
 
 ghost use Rattle.std.specs.Prelude.{◌≡◌, ◌≤◌, ◌<◌, ◌^◌, pos, IfOk, length};
 ghost use Rattle.pc_model.specs.Messages.{IsCommitRequest, IsFetchRequest};
-ghost use Rattle.pc_world.specs.declared.link.TheConstants.{FRAME_BYTES_MAX};
+ghost use Rattle.pc_world.specs.declared.link.TheConstants.{MAX_FRAME_BYTES};
 ghost use Rattle.pc_offset_client.specs.Client.{commit_question, fetch_question};
 
 use pc_model::Commit;
@@ -55,7 +55,7 @@ pub(crate) fn commit_frame(
     requires map { length commit.now.map < 2 ^ 15 }
     ensures frame { IfOk result
         (λ frame. IsCommitRequest frame.items (commit_question id part commit.now)) }
-    ensures short { IfOk result (λ frame. length frame.items ≤ FRAME_BYTES_MAX) }
+    ensures short { IfOk result (λ frame. length frame.items ≤ MAX_FRAME_BYTES) }
 {
     let items = [CommitItem {
         part: part_id(part),
@@ -86,7 +86,7 @@ pub(crate) fn commit_frame(
 pub(crate) fn fetch_frame(alloc: Global, id: i32, part: u32) -> Result<Vec<u8>, AllocError>
     requires { part < 2 ^ 31 }
     ensures frame { IfOk result (λ frame. IsFetchRequest frame.items (fetch_question id part)) }
-    ensures short { IfOk result (λ frame. length frame.items ≤ FRAME_BYTES_MAX) }
+    ensures short { IfOk result (λ frame. length frame.items ≤ MAX_FRAME_BYTES) }
 {
     let parts = [part_id(part)];
     let topics = [FetchTopic {

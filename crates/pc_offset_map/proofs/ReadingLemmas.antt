@@ -58,7 +58,7 @@ reading_from-bits bits (Ok other) is = elim (cases_Bool (nat_lt (0 + length othe
 ]
 
 -- the fault of the bytes after a letter is that at any base
-pub letter_reading-fault : (base letter : ℕ) (bytes : List ℕ) (fault : MapFault) → letter_reading 0 letter bytes ≡ Err fault → letter_reading base letter bytes ≡ Err fault
+letter_reading-fault : (base letter : ℕ) (bytes : List ℕ) (fault : MapFault) → letter_reading 0 letter bytes ≡ Err fault → letter_reading base letter bytes ≡ Err fault
 letter_reading-fault base letter bytes fault is = elim (letter_cases letter bytes) [
   | inl one ↦ one.1 base ∙ sym (one.1 0) ∙ is
   | inr one ↦ one.1 base ∙ reading_from-fault base fault one.0 (sym (one.1 0) ∙ is)

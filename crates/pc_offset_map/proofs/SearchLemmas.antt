@@ -9,7 +9,7 @@ use Rattle.pc_model.specs.Bits.{zero_runs}
 use Rattle.pc_offset_map.specs.Search.{IsBetween}
 
 -- the search begins with all runs
-pub IsBetween-all : (bits : List Bool) (place count : ℕ) → count ≡ length (zero_runs bits) → IsBetween bits place 0 count
+IsBetween-all : (bits : List Bool) (place count : ℕ) → count ≡ length (zero_runs bits) → IsBetween bits place 0 count
 IsBetween-all bits place count is = record {
   before = λ i run low here. absurd (omega (arith, low));
   after = λ i run high here. let within = slice_get_within (zero_runs bits) i run here in absurd (omega (arith, high, within, is));

@@ -7,7 +7,8 @@ use Rattle.std.specs.List.{AllByRecursion, flat_map, list_any}
 use Rattle.std.proofs.lemmas.Bool.{ltb-false}
 use Rattle.std.proofs.lemmas.Int.{ints}
 use Rattle.std.proofs.lemmas.Str.{IsUtf8-nil, is_utf8-from_IsUtf8}
-use Rattle.pc_model.specs.declared.api.TheConstants.{NO_ERROR, UNKNOWN_TOPIC_OR_PARTITION, OFFSET_METADATA_TOO_LARGE, ILLEGAL_GENERATION, UNKNOWN_MEMBER_ID, METADATA_MAX}
+use Rattle.pc_model.specs.declared.api.TheConstants.{NO_ERROR, UNKNOWN_TOPIC_OR_PARTITION, OFFSET_METADATA_TOO_LARGE, ILLEGAL_GENERATION, UNKNOWN_MEMBER_ID}
+use Rattle.pc_model.specs.declared.limits.TheConstants.{MAX_METADATA_BYTES}
 use Rattle.pc_model.specs.Broker.{Broker, Membership, Stored, commit_in, has_part, item_code, membership_of, membership_refusal, metadata_text, place_code}
 use Rattle.pc_model.specs.Messages.{CommitItem, CommitRequest, IsCommitItem, IsNullable, IsPosition, IsTopic, Topic}
 use Rattle.pc_world.specs.World.{IsStorable}
@@ -44,11 +45,11 @@ first-zero (Some m) member generation place e = refusal-zero (list_any (bytes_eq
 
 short-text : (b : Broker) (r : CommitRequest) (name : List ℕ) (item : CommitItem)
     → int_eq (item_code b r name item) NO_ERROR ≡ true
-    → length (metadata_text item.metadata) ≤ METADATA_MAX
+    → length (metadata_text item.metadata) ≤ MAX_METADATA_BYTES
 short-text b r name item e =
     let place = first-zero (membership_of b r.group) r.member r.generation (place_code b name item) e in
     ltb-false _ _ (place-zero (has_part b name item.part)
-    (ltb METADATA_MAX (length (metadata_text item.metadata))) place)
+    (ltb MAX_METADATA_BYTES (length (metadata_text item.metadata))) place)
 
 -- ---- what is stored for it
 
@@ -63,7 +64,7 @@ small-position (negsuc n) is = absurd (omega (arith, ints, is.is))
 module _ (b : Broker) (r : CommitRequest) where
   item-holds : (name : List ℕ) (item : CommitItem) (s : Stored) (accepted : Bool) → IsCommitItem item
       → s.commit ≡ commit_in item
-      → (accepted ≡ true → length (metadata_text item.metadata) ≤ METADATA_MAX)
+      → (accepted ≡ true → length (metadata_text item.metadata) ≤ MAX_METADATA_BYTES)
       → AllByRecursion Holds (cond accepted (s ∷ []) [])
   item-holds name item s true is e short = (
     subst IsStorable (sym e) (record {

@@ -8,7 +8,7 @@ use Rattle.pc_offset_wire.specs.Replies.{answered_items, answered_topics, item_c
 
 module _ {A B : Type 0} (answer : List ℕ → A → B) where
   -- the answers to a topic's items, and to all
-  abbrev pub of_topic : Topic A → List B
+  abbrev of_topic : Topic A → List B
   of_topic topic = map (answer topic.name) topic.items
 
   -- as many as there are items

@@ -6,7 +6,8 @@ use Rattle.std.specs.Ordering.{int_eq}
 use Rattle.std.specs.List.{list_any}
 use Rattle.std.proofs.lemmas.Int.{ints}
 use Rattle.std.proofs.lemmas.Str.{IsUtf8-nil, is_utf8-from_IsUtf8}
-use Rattle.pc_model.specs.declared.api.TheConstants.{NO_ERROR, UNKNOWN_TOPIC_OR_PARTITION, OFFSET_METADATA_TOO_LARGE, ILLEGAL_GENERATION, UNKNOWN_MEMBER_ID, METADATA_MAX}
+use Rattle.pc_model.specs.declared.api.TheConstants.{NO_ERROR, UNKNOWN_TOPIC_OR_PARTITION, OFFSET_METADATA_TOO_LARGE, ILLEGAL_GENERATION, UNKNOWN_MEMBER_ID}
+use Rattle.pc_model.specs.declared.limits.TheConstants.{MAX_METADATA_BYTES}
 use Rattle.pc_model.specs.declared.commit.Commit.{Commit}
 use Rattle.pc_model.specs.Broker.{Broker, Membership, entry_of, fetch_entry, has_part, item_code, membership_of, membership_refusal, metadata_text, place_code, stored_for, unknown_entry}
 use Rattle.pc_model.specs.Messages.{CommitItem, CommitRequest, FetchEntry, IsCommitCode, IsCommitItem, IsEntry, IsNullable, IsPart, IsPosition, nullable_spelling}
@@ -26,9 +27,9 @@ IsCode code = FitsSigned w16 code
 -- a code that is none of a membership's
 place-fits : (b : Broker) (name : List ℕ) (item : CommitItem) → IsCode (place_code b name item)
 place-fits b name item = choose IsCode (not (has_part b name item.part)) UNKNOWN_TOPIC_OR_PARTITION
-    (cond (nat_lt METADATA_MAX (length (metadata_text item.metadata))) OFFSET_METADATA_TOO_LARGE NO_ERROR)
+    (cond (nat_lt MAX_METADATA_BYTES (length (metadata_text item.metadata))) OFFSET_METADATA_TOO_LARGE NO_ERROR)
     (record { sfits = omega arith })
-    (choose IsCode (nat_lt METADATA_MAX (length (metadata_text item.metadata))) OFFSET_METADATA_TOO_LARGE
+    (choose IsCode (nat_lt MAX_METADATA_BYTES (length (metadata_text item.metadata))) OFFSET_METADATA_TOO_LARGE
     NO_ERROR (record { sfits = omega arith }) (record { sfits = omega arith }))
 
 abbrev AreCodes : Option ℤ → Type 0

@@ -13,7 +13,7 @@ use Rattle.pc_offset_store.specs.Store.{accepted_item, accepted_of, put_each}
 abbrev pub storing : Broker → List Stored → Broker
 storing b commits = record b { commits = commits }
 
-pub put_each-append : (xs ys ts : List Stored) → put_each (xs ++ ys) ts ≡ put_each ys (put_each xs ts)
+put_each-append : (xs ys ts : List Stored) → put_each (xs ++ ys) ts ≡ put_each ys (put_each xs ts)
 put_each-append [] ys ts = refl
 put_each-append (x ∷ xs) ys ts = put_each-append xs ys (put_stored x ts)
 

@@ -6,7 +6,7 @@ use Rattle.pc_model.specs.declared.wire_fault.WireFault.{WireFault}
 use Rattle.pc_model.specs.Broker.{Broker, Request, Refusal, Unread, TooLong as LongReply, after_request, broker_step, commits_read, fetches_read, is_fetch, reply_body, request_reading, step_of}
 use Rattle.pc_model.specs.Messages.{CommitRequest, FetchRequest, frame_spelling}
 use Rattle.pc_model.specs.MessageReading.{commit_request_reading, fetch_request_reading}
-use Rattle.pc_world.specs.declared.link.TheConstants.{FRAME_BYTES_MAX}
+use Rattle.pc_world.specs.declared.link.TheConstants.{MAX_FRAME_BYTES}
 use Rattle.pc_offset_store.specs.declared.fault.BrokerFault.{BrokerFault}
 use Rattle.pc_offset_store.specs.declared.fault.BrokerFault.TheVariants.{NoMemory, TooLong, UnknownPart, Wire}
 use Rattle.pc_offset_store.specs.Steps.{IsAnswered, IsReply}
@@ -46,16 +46,16 @@ module _ {V : Type 0} (view : V → List ℕ) where
       absurd cc
 
   long-frame : (b : Broker) (r : Request) (frame : List ℕ)
-      → (length frame ≤ FRAME_BYTES_MAX → length (reply_body b r) < 2 ^ 31)
-      → step_of b (Ok r) ≡ Err LongReply → FRAME_BYTES_MAX < length frame
-  long-frame b r frame short e = elim (cases_Bool (ltb FRAME_BYTES_MAX (length frame))) [
+      → (length frame ≤ MAX_FRAME_BYTES → length (reply_body b r) < 2 ^ 31)
+      → step_of b (Ok r) ≡ Err LongReply → MAX_FRAME_BYTES < length frame
+  long-frame b r frame short e = elim (cases_Bool (ltb MAX_FRAME_BYTES (length frame))) [
     | inl long ↦ ltb-true _ _ long
     | inr few ↦ absurd (not-long b r (short (ltb-false _ _ few)) e)
   ]
 
   pub answered-reply : (result : Result V BrokerFault) (r : Request) (frame : List ℕ) (old new : Broker)
       → request_reading frame ≡ Ok r
-      → (length frame ≤ FRAME_BYTES_MAX → length (reply_body old r) < 2 ^ 31)
+      → (length frame ≤ MAX_FRAME_BYTES → length (reply_body old r) < 2 ^ 31)
       → IsReply result view r old new → IsAnswered result view frame old new
   answered-reply (Ok reply) r frame old new read short is = ap (step_of old) read ∙ is
   answered-reply (Err TooLong) r frame old new read short is =
@@ -95,5 +95,5 @@ module _ {V : Type 0} (view : V → List ℕ) where
     pub answer-known : result ≡ Err UnknownPart → ⊥
     answer-known e = at UnknownPart e
 
-    pub answer-short : length frame ≤ FRAME_BYTES_MAX → result ≡ Err TooLong → ⊥
+    pub answer-short : length frame ≤ MAX_FRAME_BYTES → result ≡ Err TooLong → ⊥
     answer-short le e = let long = (at TooLong e).1 in absurd (omega arith)

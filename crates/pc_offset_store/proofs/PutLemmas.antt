@@ -30,7 +30,7 @@ module _ {A : Type 0} (p : A → Bool) where
   not_found true n e = absurd cc
   not_found false n e = refl
 
-  pub position-found : (xs : List A) (i : ℕ) → position p xs ≡ Some i
+  position-found : (xs : List A) (i : ℕ) → position p xs ≡ Some i
       → (position_or_len p xs < length xs) × (i ≡ position_or_len p xs)
   position-found xs i e =
       let f = found (ltb (position_or_len p xs) (length xs)) (position_or_len p xs) i e in

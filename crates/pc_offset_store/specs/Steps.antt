@@ -1,7 +1,7 @@
 -- How a broker answers a request, and a frame: by the step, and a fault changes nothing.
 use Rattle.std.specs.Prelude.{◌≡◌, ◌<◌, ℕ, List, [], ◌∷◌, Result, Ok, Err, length}
 use Rattle.pc_model.specs.Broker.{Broker, Refusal, Request, Unread, TooLong as LongReply, broker_step, step_of}
-use Rattle.pc_world.specs.declared.link.TheConstants.{FRAME_BYTES_MAX}
+use Rattle.pc_world.specs.declared.link.TheConstants.{MAX_FRAME_BYTES}
 use Rattle.pc_offset_store.specs.declared.fault.BrokerFault.{BrokerFault}
 use Rattle.pc_offset_store.specs.declared.fault.BrokerFault.TheVariants.{NoMemory, TooLong, UnknownPart, Wire}
 
@@ -22,7 +22,7 @@ IsAnswered (Ok reply) view frame old new = broker_step old frame ≡ Ok (view re
 IsAnswered (Err (Wire fault)) view frame old new =
     (broker_step old frame ≡ Err (Unread fault)) × (new ≡ old)
 IsAnswered (Err TooLong) view frame old new =
-    (broker_step old frame ≡ Err LongReply) × (FRAME_BYTES_MAX < length frame) × (new ≡ old)
+    (broker_step old frame ≡ Err LongReply) × (MAX_FRAME_BYTES < length frame) × (new ≡ old)
 IsAnswered (Err NoMemory) view frame old new = new ≡ old
 IsAnswered (Err UnknownPart) view frame old new = ⊥
 

@@ -18,12 +18,13 @@ use crate::members::{self, Group, MemberId};
 use crate::verdict::{self, Verdict};
 use pc_model::Commit;
 use pc_model::api::{
-    METADATA_MAX, NO_ERROR, OFFSET_FETCH, OFFSET_METADATA_TOO_LARGE, UNKNOWN_TOPIC_OR_PARTITION,
+    NO_ERROR, OFFSET_FETCH, OFFSET_METADATA_TOO_LARGE, UNKNOWN_TOPIC_OR_PARTITION,
 };
+use pc_model::limits::MAX_METADATA_BYTES;
 use pc_offset_wire::{
     CommitItem, CommitRequest, FetchEntry, FetchRequest, write_commit_reply, write_fetch_reply,
 };
-use pc_world::{FRAME_BYTES_MAX, Link, LinkFault};
+use pc_world::{Link, LinkFault, MAX_FRAME_BYTES};
 use std::alloc::{AllocError, Global};
 use std::marker::Model;
 
@@ -80,7 +81,7 @@ impl OffsetBroker {
     /// not below the number of parts.
     pub fn with(&mut self, group: &str, part: u32, commit: Commit) -> Result<(), BrokerFault>
         requires position { commit.position < 2 ^ 63 }
-        requires map { length commit.map ≤ METADATA_MAX }
+        requires map { length commit.map ≤ MAX_METADATA_BYTES }
         ensures stored { OnOk result (self.new ≡ with_stored self.old group.now part commit) }
         ensures known { OnOk result (part < self.old.parts) }
         ensures unknown { result ≡ Err UnknownPart → self.old.parts ≤ part }
@@ -150,7 +151,7 @@ impl OffsetBroker {
         if !self.has_part(name, item.part) {
             return UNKNOWN_TOPIC_OR_PARTITION;
         }
-        if verdict::text_of(item.metadata).len() > METADATA_MAX {
+        if verdict::text_of(item.metadata).len() > MAX_METADATA_BYTES {
             return OFFSET_METADATA_TOO_LARGE;
         }
         NO_ERROR
@@ -217,7 +218,7 @@ impl OffsetBroker {
         ensures stays { OnErr result (self.new ≡ self.old) }
 
         // A frame that a link may be given is never answered too long.
-        ensures short { length frame.now ≤ FRAME_BYTES_MAX → result ≡ Err TooLong → ⊥ }
+        ensures short { length frame.now ≤ MAX_FRAME_BYTES → result ≡ Err TooLong → ⊥ }
 
         // Each position that it stores is below 2^63, and each text has at most 4,096 bytes.
         ensures storable { OnOk result (AreStorable self.old) }

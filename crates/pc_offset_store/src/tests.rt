@@ -7,7 +7,7 @@ ghost use Rattle.pc_offset_wire.specs.Writing.{IsStorable};
 use crate::*;
 use pc_model::{Commit, MapText, WireFault};
 use pc_offset_wire::{CommitItem, CommitTopic, read_commit_request, write_commit_request};
-use pc_world::{FRAME_BYTES_MAX, FailingLink, Link, LinkFault};
+use pc_world::{FailingLink, Link, LinkFault, MAX_FRAME_BYTES};
 use std::alloc::Global;
 use std::test::Fail;
 
@@ -182,7 +182,7 @@ fn a_damaged_frame_changes_nothing(rt: HostRuntime) -> Result<(), Fail> {
 
 /// Whether the call of a link fails with a frame, if it is one that a link may be given.
 fn call(link: &mut FailingLink<OffsetBroker>, frame: &[u8]) -> Option<bool> {
-    if frame.len() > FRAME_BYTES_MAX {
+    if frame.len() > MAX_FRAME_BYTES {
         return None;
     }
     let Ok(_) = read_commit_request(frame) else {

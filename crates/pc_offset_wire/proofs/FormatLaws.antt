@@ -305,11 +305,11 @@ position-format least = record { read = position-read least; only = position-onl
 
 -- ---- numbers that have to stand somewhere
 
-pub fixed-read : (wanted : ℤ) (fault : WireFault) (rest : List ℕ) → FitsSigned w16 wanted → fixed_at wanted fault (int_spelling w16 wanted ++ rest) ≡ Ok rest
+fixed-read : (wanted : ℤ) (fault : WireFault) (rest : List ℕ) → FitsSigned w16 wanted → fixed_at wanted fault (int_spelling w16 wanted ++ rest) ≡ Ok rest
 unfolding fixed_at
 fixed-read wanted fault rest fits = rw (int-read w16 wide16 wanted rest fits, same-true wanted) refl
 
-pub fixed-only : (wanted : ℤ) (fault : WireFault) (bytes rest : List ℕ) → IsBytes bytes → fixed_at wanted fault bytes ≡ Ok rest → bytes ≡ int_spelling w16 wanted ++ rest
+fixed-only : (wanted : ℤ) (fault : WireFault) (bytes rest : List ℕ) → IsBytes bytes → fixed_at wanted fault bytes ≡ Ok rest → bytes ≡ int_spelling w16 wanted ++ rest
 unfolding fixed_at
 fixed-only wanted fault bytes rest fits e =
     let a = bind_ok (int_at w16 bytes) (same_as wanted fault) rest e in

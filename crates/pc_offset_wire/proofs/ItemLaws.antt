@@ -40,7 +40,7 @@ entry-format = format_of entry_at entry_spelling _ IsEntry
     (λ b whole. (whole.part, (whole.position, (whole.metadata, whole.code))))
     (λ b holds. record { part = holds.0; position = holds.1.0; metadata = holds.1.1.0; code = holds.1.1.1 })
 
-pub topic-format : {A : Type 0} (at : List ℕ → Result (A × List ℕ) WireFault) (spelled : A → List ℕ) (IsItem : A → Type 0) → IsFormat at spelled IsItem → IsFormat (topic_at at) (topic_spelling spelled) (IsTopic IsItem)
+topic-format : {A : Type 0} (at : List ℕ → Result (A × List ℕ) WireFault) (spelled : A → List ℕ) (IsItem : A → Type 0) → IsFormat at spelled IsItem → IsFormat (topic_at at) (topic_spelling spelled) (IsTopic IsItem)
 unfolding topic_at
 topic-format {A} at spelled IsItem item = format_of (topic_at at) (topic_spelling spelled) _ (IsTopic IsItem)
     (field string-format (λ (b : Topic A). b.name) _ _ _ (λ _. Unit {0})

@@ -59,7 +59,7 @@ module _ {A : Type 0} (item_at : List ℕ → Result (A × List ℕ) WireFault) 
   ok_same x y e = cc
 
   -- items that are passed over are those that the iterator gives
-  pub items_at-front : (n : ℕ) (bytes rest : List ℕ) → after_items item_at n bytes ≡ Ok rest → items_at item_at n bytes ≡ Ok (front_items item_at n bytes, rest)
+  items_at-front : (n : ℕ) (bytes rest : List ℕ) → after_items item_at n bytes ≡ Ok rest → items_at item_at n bytes ≡ Ok (front_items item_at n bytes, rest)
   unfolding after_items items_at front_items
   items_at-front zero bytes rest h = ok_same bytes rest h
   items_at-front (suc n) bytes rest h =
@@ -74,7 +74,7 @@ module _ {A : Type 0} (item_at : List ℕ → Result (A × List ℕ) WireFault) 
   fails_so (Ok x) fault e = absurd cc
   fails_so (Err k) fault e = ap (λ (k : WireFault). Err k) (err_is k fault e)
 
-  pub items_at-fails : (n : ℕ) (bytes : List ℕ) (fault : WireFault) → after_items item_at n bytes ≡ Err fault → items_at item_at n bytes ≡ Err fault
+  items_at-fails : (n : ℕ) (bytes : List ℕ) (fault : WireFault) → after_items item_at n bytes ≡ Err fault → items_at item_at n bytes ≡ Err fault
   unfolding after_items
   items_at-fails n bytes fault h = fails_so (items_at item_at n bytes) fault h
 

@@ -21,7 +21,7 @@ use Rattle.pc_offset_wire.proofs.ItemLaws.{commit_item-format, commit_code-forma
 abbrev Header : Type 0
 Header = ℤ × Option (List ℕ)
 
-pub header-format : (key version : ℤ) → FitsSigned w16 key → FitsSigned w16 version → IsFormat (header_at key version) (λ h. header_spelling key version h.0 h.1) (λ h. FitsSigned w32 h.0 × IsNullable h.1)
+header-format : (key version : ℤ) → FitsSigned w16 key → FitsSigned w16 version → IsFormat (header_at key version) (λ h. header_spelling key version h.0 h.1) (λ h. FitsSigned w32 h.0 × IsNullable h.1)
 unfolding header_at
 header-format key version key_fits version_fits = format_of (header_at key version) (λ h. header_spelling key version h.0 h.1) _ (λ h. FitsSigned w32 h.0 × IsNullable h.1)
     (fixed-field key BadKey key_fits _ _ _ (λ _. Unit {0})
@@ -38,7 +38,7 @@ commit-header = header-format OFFSET_COMMIT OFFSET_COMMIT_VERSION (record { sfit
 fetch-header : IsFormat (header_at OFFSET_FETCH OFFSET_FETCH_VERSION) (λ h. header_spelling OFFSET_FETCH OFFSET_FETCH_VERSION h.0 h.1) (λ h. FitsSigned w32 h.0 × IsNullable h.1)
 fetch-header = header-format OFFSET_FETCH OFFSET_FETCH_VERSION (record { sfits = omega arith }) (record { sfits = omega arith })
 
-pub commit_request-format : IsFormat commit_request_at commit_request_body IsCommitBody
+commit_request-format : IsFormat commit_request_at commit_request_body IsCommitBody
 unfolding commit_request_at
 commit_request-format = format_of commit_request_at commit_request_body _ IsCommitBody
     (field commit-header (λ (r : CommitRequest). (r.correlation, r.client)) _ _ _ (λ _. Unit {0})
@@ -62,7 +62,7 @@ commit_request-format = format_of commit_request_at commit_request_body _ IsComm
       topics = holds.1.1.1.1.1;
     })
 
-pub commit_reply-format : IsFormat commit_reply_at commit_reply_body IsCommitReplyBody
+commit_reply-format : IsFormat commit_reply_at commit_reply_body IsCommitReplyBody
 unfolding commit_reply_at
 commit_reply-format = format_of commit_reply_at commit_reply_body _ IsCommitReplyBody
     (field (int-format w32 wide32) (λ (r : CommitReply). r.correlation) _ _ _ (λ _. Unit {0})
@@ -72,7 +72,7 @@ commit_reply-format = format_of commit_reply_at commit_reply_body _ IsCommitRepl
     (λ r whole. (whole.correlation, whole.topics))
     (λ r holds. record { correlation = holds.0; topics = holds.1 })
 
-pub fetch_request-format : IsFormat fetch_request_at fetch_request_body IsFetchBody
+fetch_request-format : IsFormat fetch_request_at fetch_request_body IsFetchBody
 unfolding fetch_request_at
 fetch_request-format = format_of fetch_request_at fetch_request_body _ IsFetchBody
     (field fetch-header (λ (r : FetchRequest). (r.correlation, r.client)) _ _ _ (λ _. Unit {0})
@@ -83,7 +83,7 @@ fetch_request-format = format_of fetch_request_at fetch_request_body _ IsFetchBo
     (λ r whole. ((whole.correlation, whole.client), (whole.group, whole.topics)))
     (λ r holds. record { correlation = holds.0.0; client = holds.0.1; group = holds.1.0; topics = holds.1.1 })
 
-pub fetch_reply-format : IsFormat fetch_reply_at fetch_reply_body IsFetchReplyBody
+fetch_reply-format : IsFormat fetch_reply_at fetch_reply_body IsFetchReplyBody
 unfolding fetch_reply_at
 fetch_reply-format = format_of fetch_reply_at fetch_reply_body _ IsFetchReplyBody
     (field (int-format w32 wide32) (λ (r : FetchReply). r.correlation) _ _ _ (λ _. Unit {0})
@@ -104,7 +104,7 @@ module _ {A : Type 0} (at : List ℕ → Result (A × List ℕ) WireFault) (body
       rw (size, same) refl
 
   -- a message's frame is read as the message
-  pub frame-read : (frame : List ℕ) (m : A) → IsBody m → IsFrame frame (body m) → frame_reading at frame ≡ Ok m
+  frame-read : (frame : List ℕ) (m : A) → IsBody m → IsFrame frame (body m) → frame_reading at frame ≡ Ok m
   unfolding frame_reading
   frame-read frame m holds is =
       let read : at (body m) ≡ Ok (m, []) = ap at (sym (append-nil (body m))) ∙ format.read m [] holds in
@@ -129,7 +129,7 @@ module _ {A : Type 0} (at : List ℕ → Result (A × List ℕ) WireFault) (body
       counted false false x y e = (refl, refl, ok_is x y e)
 
   -- what is read has the message's frame
-  pub frame-only : (frame : List ℕ) (m : A) → IsBytes frame → frame_reading at frame ≡ Ok m → IsBody m × IsFrame frame (body m)
+  frame-only : (frame : List ℕ) (m : A) → IsBytes frame → frame_reading at frame ≡ Ok m → IsBody m × IsFrame frame (body m)
   unfolding frame_reading
   frame-only frame m fits e =
       let a = bind_ok (body_at frame) (λ text. at text >>= whole) m e in

@@ -11,7 +11,7 @@ use Rattle.pc_offset_wire.proofs.WritingLemmas.{Leaves, Leaves-one, Leaves-fails
 
 module _ {A B C : Type 0} (made : A → B → C) where
   -- an item and its answer
-  pub answered-one : (xs others : List A) (ys rest : List B) (x : A) (y : B) → xs ≡ x ∷ others → ys ≡ y ∷ rest → answered_items made xs ys ≡ made x y ∷ answered_items made others rest
+  answered-one : (xs others : List A) (ys rest : List B) (x : A) (y : B) → xs ≡ x ∷ others → ys ≡ y ∷ rest → answered_items made xs ys ≡ made x y ∷ answered_items made others rest
   answered-one xs others ys rest x y e h = ap (λ (l : List A). answered_items made l ys) e ∙ ap (answered_items made (x ∷ others)) h
 
   -- no item

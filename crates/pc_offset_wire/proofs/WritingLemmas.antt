@@ -31,13 +31,13 @@ Puts-front (Err TooLong) front text old mid new Fits e h = h
 Puts-front (Err NoMemory) front text old mid new Fits e h = tt
 
 -- the fact is another that holds where this one does
-pub Puts-same : (result : Result (Unit {0}) WireWriteFault) (text old new : List ℕ) (Fits Whole : Type 0) → (Fits → Whole) → (Whole → Fits) → Puts text Fits old new result → Puts text Whole old new result
+Puts-same : (result : Result (Unit {0}) WireWriteFault) (text old new : List ℕ) (Fits Whole : Type 0) → (Fits → Whole) → (Whole → Fits) → Puts text Fits old new result → Puts text Whole old new result
 Puts-same (Ok done) text old new Fits Whole to from h = (h.0, to h.1)
 Puts-same (Err TooLong) text old new Fits Whole to from h = λ w. h (from w)
 Puts-same (Err NoMemory) text old new Fits Whole to from h = tt
 
 -- a step that failed is a failure of the whole
-pub Puts-fails : (fault : WireWriteFault) (text whole old mid new last : List ℕ) (Fits Whole : Type 0) → (Whole → Fits) → Puts text Fits mid new (Err fault) → Puts whole Whole old last (Err fault)
+Puts-fails : (fault : WireWriteFault) (text whole old mid new last : List ℕ) (Fits Whole : Type 0) → (Whole → Fits) → Puts text Fits mid new (Err fault) → Puts whole Whole old last (Err fault)
 Puts-fails TooLong text whole old mid new last Fits Whole from h = λ w. h (from w)
 Puts-fails NoMemory text whole old mid new last Fits Whole from h = tt
 

@@ -34,7 +34,7 @@ pub record IsBuilt (runs : List (ℕ × ℕ)) (position high place i : ℕ) (bit
   pub same : (o : ℕ) → place ≤ o → is_in o runs ≡ is_in o (drop i runs)
   pub in_order : AreRuns place (2 ^ 63) (drop i runs)
 
-pub IsBuilt-start : (runs : List (ℕ × ℕ)) (position high : ℕ) → AreRuns position (2 ^ 63) runs → position ≤ high
+IsBuilt-start : (runs : List (ℕ × ℕ)) (position high : ℕ) → AreRuns position (2 ^ 63) runs → position ≤ high
     → IsBuilt runs position high position 0 []
 IsBuilt-start runs position high are le =
     let none : position - position ≡ 0 = omega arith in
@@ -72,7 +72,7 @@ head-before : (o : ℕ) (run : ℕ × ℕ) (rest : List (ℕ × ℕ)) (least : �
     → is_in o (run ∷ rest) ≡ false
 head-before o run rest least are before = is_in-none o least (2 ^ 63) (run ∷ rest) are (λ d some. before)
 
-pub IsBuiltNext-one : (runs : List (ℕ × ℕ)) (position high place i : ℕ) (bits : List Bool) (d : ℕ × ℕ)
+IsBuiltNext-one : (runs : List (ℕ × ℕ)) (position high place i : ℕ) (bits : List Bool) (d : ℕ × ℕ)
     → IsBuilt runs position high place i bits → i < length runs → (get_or runs i d).0 ≤ high
     → list_any (λ x. eqb x high) (offsets_in runs) ≡ false
     → IsBuiltNext runs position high place i bits (get_or runs i d)

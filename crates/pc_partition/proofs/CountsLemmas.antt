@@ -74,7 +74,7 @@ below-front least count high (run ∷ others) runs are le =
     rw (upto-test run.0 high (omega (arith, are.2, le)))
     (ap (λ (l : List (ℕ × ℕ)). run ∷ l) (below-front (run.0 + run.1 + 1) count high others runs are.3 le))
 
-pub below-all : (least high : ℕ) (runs : List (ℕ × ℕ)) → AreRuns least high runs → runs_below high runs ≡ runs
+below-all : (least high : ℕ) (runs : List (ℕ × ℕ)) → AreRuns least high runs → runs_below high runs ≡ runs
 below-all least high runs are =
     ap (runs_below high) (sym (append-nil runs)) ∙ below-front least high high runs [] are (omega arith) ∙ append-nil runs
 
@@ -151,14 +151,14 @@ upto-behind least end [] back are = refl
 upto-behind least end (one ∷ middle) back are =
     ap (λ (l : List ℕ). one.1 ∷ l) (after-behind (one.0 + one.1) end middle back are.3)
 
-pub AreRuns-behind : (least count : ℕ) (front runs : List (ℕ × ℕ)) → AreRuns least count (front ++ runs) → AreRuns least count runs
+AreRuns-behind : (least count : ℕ) (front runs : List (ℕ × ℕ)) → AreRuns least count (front ++ runs) → AreRuns least count runs
 AreRuns-behind least count [] runs are = are
 AreRuns-behind least count (run ∷ front) runs are =
     AreRuns-lower least (run.0 + run.1 + 1) count runs (omega (arith, are.0))
     (AreRuns-behind (run.0 + run.1 + 1) count front runs are.3)
 
 -- the runs in the middle end where those behind begin
-pub AreRuns-middle : (least end : ℕ) (middle back : List (ℕ × ℕ)) → AreRuns least end (middle ++ back)
+AreRuns-middle : (least end : ℕ) (middle back : List (ℕ × ℕ)) → AreRuns least end (middle ++ back)
     → AreRuns least (start_of end back) middle
 AreRuns-middle least end [] back are = tt
 AreRuns-middle least end (run ∷ middle) back are = (
@@ -220,13 +220,13 @@ IsCutTwice-runs first behind end runs are within =
 
 -- ---- counts
 
-pub long_of-append : (limit : ℕ) (xs ys : List ℕ) → long_of limit (xs ++ ys) ≡ long_of limit xs + long_of limit ys
+long_of-append : (limit : ℕ) (xs ys : List ℕ) → long_of limit (xs ++ ys) ≡ long_of limit xs + long_of limit ys
 long_of-append limit xs ys = sum_by-append (λ n. cond (leb limit n) 1 0) xs ys
 
 long_of-cons : (limit n : ℕ) (ns : List ℕ) → long_of limit (n ∷ ns) ≡ cond (leb limit n) 1 0 + long_of limit ns
 long_of-cons limit n ns = sum_by-cons (λ n. cond (leb limit n) 1 0) n ns
 
-pub once-at-most : (b : Bool) → cond b 1 0 ≤ 1
+once-at-most : (b : Bool) → cond b 1 0 ≤ 1
 once-at-most true = omega arith
 once-at-most false = omega arith
 
@@ -235,7 +235,7 @@ length-after place end [] = elim (cases_Bool (ltb place end)) [ inl t ↦ rw t (
 length-after place end (run ∷ runs) = let ih = length-after (run.0 + run.1) end runs in omega (arith, ih)
 
 -- at most two lengths for a run
-pub long_of-few : (limit end : ℕ) (runs : List (ℕ × ℕ)) → long_of limit (lengths_upto end runs) ≤ 2 * length runs
+long_of-few : (limit end : ℕ) (runs : List (ℕ × ℕ)) → long_of limit (lengths_upto end runs) ≤ 2 * length runs
 long_of-few limit end [] = omega arith
 long_of-few limit end (run ∷ runs) =
     let few = count_by-le-length (λ n. leb limit n) (lengths_upto end (run ∷ runs)) in
@@ -243,7 +243,7 @@ long_of-few limit end (run ∷ runs) =
     omega (arith, few, len)
 
 -- runs do not touch
-pub length-apart : (least count : ℕ) (runs : List (ℕ × ℕ)) → AreRuns least count runs → least ≤ count + 1
+length-apart : (least count : ℕ) (runs : List (ℕ × ℕ)) → AreRuns least count runs → least ≤ count + 1
     → 2 * length runs + least ≤ count + 1
 length-apart least count [] are le = omega (arith, le)
 length-apart least count (run ∷ runs) are le =
@@ -257,7 +257,7 @@ pub record IsCounting (limit end place count i : ℕ) (runs : List (ℕ × ℕ))
   pub in_order : AreRuns place end (drop i runs)
   pub upto : place ≤ end
 
-pub IsCounting-start : (limit end : ℕ) (runs : List (ℕ × ℕ)) (run : ℕ × ℕ) → AreRuns 0 end runs → 0 < limit
+IsCounting-start : (limit end : ℕ) (runs : List (ℕ × ℕ)) (run : ℕ × ℕ) → AreRuns 0 end runs → 0 < limit
     → slice_get runs 0 ≡ Some run → IsCounting limit end run.0 0 0 runs
 IsCounting-start limit end [] run are some first = cc
 IsCounting-start limit end (one ∷ runs) run are some first =
@@ -300,7 +300,7 @@ IsCountingNext-one limit end place count i runs d is are small within =
     }
 
 -- where no more runs are left
-pub IsCounting-end : (limit end place count i : ℕ) (runs : List (ℕ × ℕ)) → IsCounting limit end place count i runs
+IsCounting-end : (limit end place count i : ℕ) (runs : List (ℕ × ℕ)) → IsCounting limit end place count i runs
     → length runs ≤ i → 0 < limit
     → count + cond (leb limit (end - place)) 1 0 ≡ long_of limit (lengths_upto end runs)
 IsCounting-end limit end place count i runs is all some =
@@ -318,7 +318,7 @@ IsCounting-end limit end place count i runs is all some =
     ]
 
 -- the middle begins here where anything stands before it
-abbrev pub HasStart : ℕ → List (ℕ × ℕ) → List (ℕ × ℕ) → Type 0
+abbrev HasStart : ℕ → List (ℕ × ℕ) → List (ℕ × ℕ) → Type 0
 HasStart start [] middle = Unit {0}
 HasStart start (run ∷ front) [] = ⊥
 HasStart start (run ∷ front) (one ∷ middle) = one.0 ≡ start

@@ -41,7 +41,7 @@ without-above o a n above = without-range o a n true (grind (arith, nat_tests)) 
 
 -- ---- the offsets in runs
 
-pub offsets_in-append : (xs ys : List (ℕ × ℕ)) → offsets_in (xs ++ ys) ≡ offsets_in xs ++ offsets_in ys
+offsets_in-append : (xs ys : List (ℕ × ℕ)) → offsets_in (xs ++ ys) ≡ offsets_in xs ++ offsets_in ys
 offsets_in-append [] ys = refl
 offsets_in-append (x ∷ xs) ys = rw (offsets_in-append xs ys, append_assoc) refl
 
@@ -105,7 +105,7 @@ IsNonDecreasingBy-runs least count (run ∷ runs) are =
     (IsNonDecreasingBy-runs (run.0 + run.1 + 1) count runs are.3)
 
 -- an offset that only the run with this index can have
-pub is_in-at : (o least count : ℕ) (runs : List (ℕ × ℕ)) (i : ℕ) (d : ℕ × ℕ) → AreRuns least count runs
+is_in-at : (o least count : ℕ) (runs : List (ℕ × ℕ)) (i : ℕ) (d : ℕ × ℕ) → AreRuns least count runs
     → i < length runs → (get_or runs i d).0 ≤ o
     → ((j : ℕ) (d : ℕ × ℕ) → i < j → j < length runs → o < (get_or runs j d).0)
     → is_in o runs ≡ ltb (o - (get_or runs i d).0) (get_or runs i d).1
@@ -129,13 +129,13 @@ is_in-none o least count runs are above =
 
 -- ---- one run replaced
 
-pub splice-none : (i : ℕ) (runs : List (ℕ × ℕ)) → i < length runs → remove runs i ≡ splice i [] runs
+splice-none : (i : ℕ) (runs : List (ℕ × ℕ)) → i < length runs → remove runs i ≡ splice i [] runs
 splice-none i [] within = absurd (omega arith)
 splice-none zero (run ∷ runs) within = refl
 splice-none (suc i) (run ∷ runs) within =
     ap (λ (l : List (ℕ × ℕ)). run ∷ l) (splice-none i runs (omega arith))
 
-pub splice-one : (i : ℕ) (one : ℕ × ℕ) (runs : List (ℕ × ℕ)) → i < length runs
+splice-one : (i : ℕ) (one : ℕ × ℕ) (runs : List (ℕ × ℕ)) → i < length runs
     → set runs i one ≡ splice i (one ∷ []) runs
 splice-one i one [] within = absurd (omega arith)
 splice-one zero one (run ∷ runs) within = refl
@@ -149,7 +149,7 @@ splice-two' zero one two (run ∷ runs) within = refl
 splice-two' (suc i) one two (run ∷ runs) within =
     ap (λ (l : List (ℕ × ℕ)). run ∷ l) (splice-two' i one two runs (omega arith))
 
-pub splice-two : (i : ℕ) (one two : ℕ × ℕ) (runs : List (ℕ × ℕ)) → i < length runs
+splice-two : (i : ℕ) (one two : ℕ × ℕ) (runs : List (ℕ × ℕ)) → i < length runs
     → insert (set runs i one) (i + 1) two ≡ splice i (one ∷ two ∷ []) runs
 splice-two i one two runs within = rw (add-one i) (splice-two' i one two runs within)
 
@@ -166,7 +166,7 @@ AreRuns-append low end count (run ∷ others) runs are le fits rest = (
 )
 
 -- runs within the place of one run are in order there
-pub AreRuns-splice : (least count : ℕ) (i : ℕ) (d : ℕ × ℕ) (others runs : List (ℕ × ℕ))
+AreRuns-splice : (least count : ℕ) (i : ℕ) (d : ℕ × ℕ) (others runs : List (ℕ × ℕ))
     → AreRuns least count runs → i < length runs
     → AreRuns (get_or runs i d).0 ((get_or runs i d).0 + (get_or runs i d).1) others
     → AreRuns least count (splice i others runs)
@@ -188,7 +188,7 @@ without-offsets_below o least count (run ∷ runs) are below =
     ) refl
 
 -- an offset taken out of one run is taken out of all
-pub TakesOut-splice : (o least count : ℕ) (i : ℕ) (d : ℕ × ℕ) (others runs : List (ℕ × ℕ))
+TakesOut-splice : (o least count : ℕ) (i : ℕ) (d : ℕ × ℕ) (others runs : List (ℕ × ℕ))
     → AreRuns least count runs → i < length runs → (get_or runs i d).0 ≤ o
     → o < (get_or runs i d).0 + (get_or runs i d).1
     → TakesOut o (range_with_len (get_or runs i d).0 (get_or runs i d).1) (offsets_in others)
@@ -217,7 +217,7 @@ TakesOut-splice o least count (suc i) d others (run ∷ runs) are within low hig
     }
 
 -- an offset taken out of a range leaves the two ranges beside it
-pub TakesOut-range : (o start before after : ℕ) (others : List (ℕ × ℕ)) → start + before ≡ o
+TakesOut-range : (o start before after : ℕ) (others : List (ℕ × ℕ)) → start + before ≡ o
     → offsets_in others ≡ range_with_len start before ++ range_with_len (o + 1) after
     → TakesOut o (range_with_len start (before + 1 + after)) (offsets_in others)
 TakesOut-range o start before after others at are = record {
@@ -242,7 +242,7 @@ length-runs least count (run ∷ runs) are =
     omega (arith, ih, len, one, are.1)
 
 -- a run of many leaves room for others
-pub length-runs_at : (least count : ℕ) (runs : List (ℕ × ℕ)) (i : ℕ) (d : ℕ × ℕ) → AreRuns least count runs
+length-runs_at : (least count : ℕ) (runs : List (ℕ × ℕ)) (i : ℕ) (d : ℕ × ℕ) → AreRuns least count runs
     → i < length runs → length runs + (get_or runs i d).1 ≤ length (offsets_in runs) + 1
 length-runs_at least count [] i d are within = absurd (omega arith)
 length-runs_at least count (run ∷ runs) zero d are within =
@@ -257,7 +257,7 @@ length-runs_at least count (run ∷ runs) (suc i) d are within =
     omega (arith, ih, len, one, are.1)
 
 -- the offsets lie between the least and the count
-pub length-offsets_in : (least count : ℕ) (runs : List (ℕ × ℕ)) → least ≤ count + 1
+length-offsets_in : (least count : ℕ) (runs : List (ℕ × ℕ)) → least ≤ count + 1
     → AreRuns least count runs → length (offsets_in runs) + least ≤ count + 1
 length-offsets_in least count [] fits are = omega arith
 length-offsets_in least count (run ∷ runs) fits are =
@@ -338,7 +338,7 @@ pub record IsCutTo (i o : ℕ) (runs new : List (ℕ × ℕ)) : Type 0 where
 
 module _ (runs : List (ℕ × ℕ)) (i o : ℕ) (run : ℕ × ℕ) (are : AreRuns 0 (2 ^ 63) runs)
     (at : IsCut runs i o) (is : run ≡ get_or runs i run) where
-  pub run-low : run.0 ≤ o
+  run-low : run.0 ≤ o
   run-low = subst (λ (r : ℕ × ℕ). r.0 ≤ o) (sym is) (at.low run)
 
   pub run-high : o < run.0 + run.1

@@ -33,7 +33,7 @@ filter-range p a (suc n) le = rw (lt-ltb a p (omega arith))
     (ap (λ (l : List ℕ). a ∷ l) (filter-range p (a + 1) n (omega arith)))
 
 -- all offsets lie below where the runs end
-pub filter-runs : (p least count : ℕ) (runs : List (ℕ × ℕ)) → AreRuns least count runs → count ≤ p
+filter-runs : (p least count : ℕ) (runs : List (ℕ × ℕ)) → AreRuns least count runs → count ≤ p
     → filter (λ o. ltb o p) (offsets_in runs) ≡ offsets_in runs
 filter-runs p least count [] are le = refl
 filter-runs p least count (run ∷ runs) are le =
@@ -83,7 +83,7 @@ least-runs least count (start, suc size) runs are =
     (range-from start (start + 1) size (omega arith))
     (runs-from start (start + suc size + 1) count runs are.3 (omega arith)))
 
-pub position-some : (w : Window) (b n : ℕ) (marks : List Mark) (least count : ℕ) (run : ℕ × ℕ) (runs : List (ℕ × ℕ))
+position-some : (w : Window) (b n : ℕ) (marks : List Mark) (least count : ℕ) (run : ℕ × ℕ) (runs : List (ℕ × ℕ))
     → StandsFor w b n marks → w.incomplete ≡ offsets_in (run ∷ runs) → AreRuns least count (run ∷ runs)
     → run.0 ≡ position_at b marks
 unfolding position_at
@@ -256,12 +256,12 @@ any-apart o (x ∷ xs) apart = elim (cases_Bool (eqb x o)) [
 ]
 
 -- the others are those without it
-pub TakesOut-without : (o : ℕ) (old new : List ℕ) → TakesOut o old new → new ≡ without o old
+TakesOut-without : (o : ℕ) (old new : List ℕ) → TakesOut o old new → new ≡ without o old
 TakesOut-without o old new takes = takes.new_is ∙ sym (ap (without o) takes.old_is
     ∙ filter-append (λ x. not (eqb x o)) takes.front (o ∷ takes.back)
     ∙ rw (takes.front_apart, eq-eqb o o refl, takes.back_apart) refl)
 
-pub TakesOut-length : (o : ℕ) (old new : List ℕ) → TakesOut o old new → length old ≡ length new + 1
+TakesOut-length : (o : ℕ) (old new : List ℕ) → TakesOut o old new → length old ≡ length new + 1
 TakesOut-length o old new takes =
     let a = ap (λ (l : List ℕ). length l) takes.old_is in
     let b = ap (λ (l : List ℕ). length l) takes.new_is in
@@ -283,7 +283,7 @@ count-taken o p front back =
     ])
 
 -- how many open ones are left
-pub TakesOut-count : (o p : ℕ) (old new : List ℕ) → TakesOut o old new
+TakesOut-count : (o p : ℕ) (old new : List ℕ) → TakesOut o old new
     → length (filter (λ x. ltb x p) old) ≡ length (filter (λ x. ltb x p) new) + cond (ltb o p) 1 0
 TakesOut-count o p old new takes = rw (takes.old_is, takes.new_is) (count-taken o p takes.front takes.back)
 
@@ -313,7 +313,7 @@ high-taken o after (Some h) old new takes low below apart = elim (cases_lt o h) 
   | inr more ↦ let top : max o h ≡ o = omega arith in rw top (low, TakesOut-gone o old new takes)
 ]
 
-pub IsState-taken : (runs new : List (ℕ × ℕ)) (high : Option ℕ) (counts counts' : Counts) (after polled_to pending left capacity o pending' left' capacity' : ℕ)
+IsState-taken : (runs new : List (ℕ × ℕ)) (high : Option ℕ) (counts counts' : Counts) (after polled_to pending left capacity o pending' left' capacity' : ℕ)
     → IsState runs high counts after polled_to pending left capacity
     → list_any (λ x. eqb x o) (offsets_in runs) ≡ true
     → TakesOut o (offsets_in runs) (offsets_in new) → AreRuns 0 after new
@@ -371,10 +371,10 @@ IsState-taken_unpolled runs new high counts counts' after polled_to pending left
     (rw test same) (left-taken o left (offsets_in runs) (offsets_in new) takes is.left_is)
 
 -- there was one to take
-pub left-some : (o left : ℕ) (old new : List ℕ) → TakesOut o old new → left ≡ length old → 1 ≤ left
+left-some : (o left : ℕ) (old new : List ℕ) → TakesOut o old new → left ≡ length old → 1 ≤ left
 left-some o left old new takes is = let len = TakesOut-length o old new takes in omega (arith, len, is)
 
-pub pending-some : (o polled_to pending : ℕ) (old new : List ℕ) → TakesOut o old new
+pending-some : (o polled_to pending : ℕ) (old new : List ℕ) → TakesOut o old new
     → pending ≡ length (filter (λ x. ltb x polled_to) old) → o < polled_to → 1 ≤ pending
 pending-some o polled_to pending old new takes is polled =
     let count = rw (lt-ltb o polled_to polled) at (TakesOut-count o polled_to old new takes) in omega (arith, count, is)

@@ -20,12 +20,12 @@ abbrev pub after_last : ℕ → List ℕ → ℕ
 after_last b [] = b
 after_last b (o ∷ os) = after_last (o + 1) os
 
-pub after_last-le : (b : ℕ) (os : List ℕ) → RisesFrom b os → b ≤ after_last b os
+after_last-le : (b : ℕ) (os : List ℕ) → RisesFrom b os → b ≤ after_last b os
 after_last-le b [] rises = omega arith
 after_last-le b (o ∷ os) rises =
     let ih = after_last-le (o + 1) os rises.2 in omega (arith, ih, rises.0)
 
-pub after_last-small : (b : ℕ) (os : List ℕ) → RisesFrom b os → after_last b os < 2 ^ 63
+after_last-small : (b : ℕ) (os : List ℕ) → RisesFrom b os → after_last b os < 2 ^ 63
 after_last-small b [] rises = rises
 after_last-small b (o ∷ os) rises = after_last-small (o + 1) os rises.2
 
@@ -86,7 +86,7 @@ pub StandsFor-start : (b : ℕ) → b < 2 ^ 63 → StandsFor
 unfolding high_at end_at
 StandsFor-start b small = record { rises = small; polled = omega arith; incomplete = refl; high = refl; after = refl; polled_to = refl }
 
-pub StandsFor-inherit : (w : Window) (b : ℕ) (marks : List Mark) (o : ℕ) (c : Bool) → StandsFor w b 0 marks
+StandsFor-inherit : (w : Window) (b : ℕ) (marks : List Mark) (o : ℕ) (c : Bool) → StandsFor w b 0 marks
     → w.after ≤ o → o < 2 ^ 63 - 1 → StandsFor (inherit_window o c w) b 0
     (marks ++ record { offset = o; is_complete = c } ∷ [])
 unfolding high_at
@@ -116,7 +116,7 @@ StandsFor-inherit w b marks o c is above small =
 
 -- ---- the first marks
 
-pub RisesFrom-take : (b n : ℕ) (marks : List Mark) → RisesFrom b (offsets_of marks) → RisesFrom b (offsets_of (take n marks))
+RisesFrom-take : (b n : ℕ) (marks : List Mark) → RisesFrom b (offsets_of marks) → RisesFrom b (offsets_of (take n marks))
 RisesFrom-take b zero [] rises = rises
 RisesFrom-take b zero (m ∷ marks) rises = omega (arith, rises.0, rises.1)
 RisesFrom-take b (suc n) [] rises = rises
@@ -358,7 +358,7 @@ nothing-polled : (n : ℕ) (marks : List Mark) → with_polled n marks [] ≡ ma
 nothing-polled n marks = ap (λ l. marks ++ map new_mark l) (drop-nothing (length marks - n) [] refl) ∙ append-nil marks
 
 -- each offset in turn
-pub StandsFor-poll_all : (os : List ℕ) (w : Window) (b n : ℕ) (marks : List Mark) → StandsFor w b n marks
+StandsFor-poll_all : (os : List ℕ) (w : Window) (b n : ℕ) (marks : List Mark) → StandsFor w b n marks
     → RisesFrom w.polled_to os → AreNext n marks os
     → StandsFor (poll_all os w) b (n + length os) (with_polled n marks os)
 StandsFor-poll_all [] w b n marks is rises next =
@@ -548,7 +548,7 @@ pub record IsPolled (w : Window) (b n : ℕ) (marks : List Mark) (o : ℕ) (os :
   pub few : length (filter (λ x. ltb x (o + 1)) (poll_window o w).incomplete)
       ≤ length (filter (λ x. ltb x w.polled_to) w.incomplete) + 1
 
-pub IsPolled-one : (w : Window) (b n : ℕ) (marks : List Mark) (o : ℕ) (os : List ℕ) → StandsFor w b n marks
+IsPolled-one : (w : Window) (b n : ℕ) (marks : List Mark) (o : ℕ) (os : List ℕ) → StandsFor w b n marks
     → AreNext n marks (o ∷ os) → w.polled_to ≤ o → o < 2 ^ 63 - 1 → IsPolled w b n marks o os
 IsPolled-one w b n marks o os is next follows small = elim (cases_lt n (length marks)) [
   | inl less ↦
@@ -588,7 +588,7 @@ IsPolled-one w b n marks o os is next follows small = elim (cases_lt n (length m
 ]
 
 -- one more offset polled
-pub poll_all-more : (xs : List ℕ) (o : ℕ) (w : Window) → poll_all (xs ++ o ∷ []) w ≡ poll_window o (poll_all xs w)
+poll_all-more : (xs : List ℕ) (o : ℕ) (w : Window) → poll_all (xs ++ o ∷ []) w ≡ poll_window o (poll_all xs w)
 poll_all-more [] o w = refl
 poll_all-more (x ∷ xs) o w = poll_all-more xs o (poll_window x w)
 

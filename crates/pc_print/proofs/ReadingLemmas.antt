@@ -385,7 +385,7 @@ nothing_left (first, []) e is = (some_is is, refl)
 nothing_left (first, word ∷ words) e is = absurd (none_some is)
 
 -- words that are read are those of the event
-pub words_take : (words : Words) (e : Event) → event_of_words words ≡ Some e → (words ≡ event_words e) × IsEvent e
+words_take : (words : Words) (e : Event) → event_of_words words ≡ Some e → (words ≡ event_words e) × IsEvent e
 unfolding event_of_words
 words_take [] e is = absurd (none_some is)
 words_take (text ∷ words) e is =

@@ -17,14 +17,14 @@ use Rattle.pc_print.specs.Line.{marked, spaced, IsEnded}
 
 -- ---- visible bytes
 
-abbrev pub IsVisible : ℕ → Type 0
+abbrev IsVisible : ℕ → Type 0
 IsVisible b = (33 ≤ b) × (b ≤ 126)
 
 abbrev pub AreVisible : List ℕ → Type 0
 AreVisible word = AllByRecursion IsVisible word
 
 -- the same as a test, for words that are written out
-abbrev pub are_visible : List ℕ → Bool
+abbrev are_visible : List ℕ → Bool
 are_visible [] = true
 are_visible (b ∷ word) = (leb 33 b && leb b 126) && are_visible word
 
@@ -106,7 +106,7 @@ spaced-slice_split (b ∷ line) =
 
 -- ---- line feeds
 
-abbrev pub IsOneLine : List ℕ → Type 0
+abbrev IsOneLine : List ℕ → Type 0
 IsOneLine line = AllByRecursion (λ b. is_feed b ≡ false) line
 
 IsOneLine-append : (a b : List ℕ) → IsOneLine a → IsOneLine b → IsOneLine (a ++ b)

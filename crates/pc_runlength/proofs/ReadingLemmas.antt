@@ -20,7 +20,7 @@ use Rattle.pc_runlength.specs.RunLengths.{checked_count}
 -- ---- the numbers
 
 -- the numbers from an index on
-pub drop-numbers_in : (width i : ℕ) (bytes : List ℕ) → i < length bytes / width
+drop-numbers_in : (width i : ℕ) (bytes : List ℕ) → i < length bytes / width
     → drop i (numbers_in width bytes) ≡ big_number width (drop (width * i) bytes) ∷ drop (i + 1) (numbers_in width bytes)
 drop-numbers_in width i bytes within =
     let number : ℕ → ℕ = λ k. big_number width (drop (width * k) bytes) in
@@ -29,7 +29,7 @@ drop-numbers_in width i bytes within =
     rw (← at) (drop_more (numbers_in width bytes) i 0 (omega (arith, count, within)))
 
 -- the numbers from the end on
-pub drop-numbers_in_end : (width i : ℕ) (bytes : List ℕ) → length bytes / width ≤ i → drop i (numbers_in width bytes) ≡ []
+drop-numbers_in_end : (width i : ℕ) (bytes : List ℕ) → length bytes / width ≤ i → drop i (numbers_in width bytes) ≡ []
 drop-numbers_in_end width i bytes past =
     let count = length-map-range_with_len (λ k. big_number width (drop (width * k) bytes)) 0 (length bytes / width) in
     drop_all i (numbers_in width bytes) (omega (arith, count, past))
@@ -46,7 +46,7 @@ length-bits_in_turn (n ∷ lengths) =
     omega (arith, first, second, ih, one, zero)
 
 -- one more run
-pub length-bits_in_turn_cons : (n : ℕ) (lengths : List ℕ) → length (bits_in_turn false (n ∷ lengths)) ≡ n + length (bits_in_turn false lengths)
+length-bits_in_turn_cons : (n : ℕ) (lengths : List ℕ) → length (bits_in_turn false (n ∷ lengths)) ≡ n + length (bits_in_turn false lengths)
 length-bits_in_turn_cons n lengths =
     let whole = length-append (replicate n false) (bits_in_turn true lengths) in
     let zeros = length-replicate n false in

@@ -91,7 +91,7 @@ asked_fits (Some word.Drain) words asked e = none_left play.Drain tt words asked
 asked_fits (Some word.Done) words asked e = none_left play.Done tt words asked e
 asked_fits (Some word.Close) words asked e = none_left play.Close tt words asked e
 
-pub IsPlayable-play_act_of : (words : List (List ℕ)) (act : PlayAct) → play_act_of words ≡ Ok act → IsPlayable act
+IsPlayable-play_act_of : (words : List (List ℕ)) (act : PlayAct) → play_act_of words ≡ Ok act → IsPlayable act
 IsPlayable-play_act_of [] act e = absurd cc
 IsPlayable-play_act_of (text ∷ words) act e = asked_fits (play_word_of text) words act e
 

@@ -56,7 +56,7 @@ cond_ok_err : {A : Type 0} (b : Bool) (r : Result A ScriptKind) (kind : ScriptKi
 cond_ok_err true r kind y e = e
 cond_ok_err false r kind y e = absurd cc
 
-pub IsStep-written_step_of : (words : List (List ℕ)) (step : Step) → written_step_of words ≡ Ok step → IsStep step
+IsStep-written_step_of : (words : List (List ℕ)) (step : Step) → written_step_of words ≡ Ok step → IsStep step
 IsStep-written_step_of [] step e = absurd cc
 IsStep-written_step_of (text ∷ words) step e = behind_at_fits words step (cond_ok_err _ _ _ step e)
 

@@ -1,6 +1,7 @@
 -- The arguments behind the first word of a script's line, with the first fault.
-use Rattle.std.specs.Prelude.{ℕ, Bool, true, false, ◌≡◌, ◌&&◌, ◌||◌, ◌==◌, nat_le, List, [], ◌∷◌, Option, Some, None, Result, Ok, Err, if◌then◌else◌}
+use Rattle.std.specs.Prelude.{ℕ, Bool, true, false, ◌≡◌, ◌&&◌, ◌-◌, ◌||◌, ◌==◌, nat_le, List, [], ◌∷◌, Option, Some, None, Result, Ok, Err, if◌then◌else◌}
 use Rattle.std.specs.Result.{MatchResult}
+use Rattle.pc_model.specs.declared.limits.TheConstants.{MAX_PARTS}
 use Rattle.pc_lines.specs.Decimal.{number_of}
 use Rattle.pc_lines.specs.Pieces.{words_of}
 use Rattle.pc_script.specs.declared.fault.ScriptKind.{ScriptKind}
@@ -27,7 +28,7 @@ unfoldable pub argument_of : ℕ → ℕ → List ℕ → Result ℕ ScriptKind
 argument_of least most word = in_range least most (number_of word)
 
 abbrev pub part_of : List ℕ → Result ℕ ScriptKind
-part_of word = argument_of 0 1023 word
+part_of word = argument_of 0 (MAX_PARTS - 1) word
 
 -- ---- how many arguments there are
 

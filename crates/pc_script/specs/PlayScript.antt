@@ -2,6 +2,7 @@
 use Rattle.std.specs.Prelude.{ℕ, ◌+◌, ◌-◌, ◌<◌, ◌≤◌, ◌^◌, ⊤, List, [], ◌∷◌, ◌++◌, length, nat_lt, Option, Some, None, Result, Ok, Err, if◌then◌else◌, codes}
 use Rattle.std.specs.List.{AllByRecursion}
 use Rattle.std.specs.Str.{bytes_eq}
+use Rattle.pc_model.specs.declared.limits.TheConstants.{MAX_EVENTS, MAX_PARTS, MAX_RECORDS, MAX_SCRIPT_LINES, MAX_WORKERS}
 use Rattle.pc_lines.specs.Pieces.{lines_of, words_of}
 use Rattle.pc_script.specs.declared.fault.ScriptFault.{ScriptFault}
 use Rattle.pc_script.specs.declared.fault.ScriptKind.{ScriptKind}
@@ -56,7 +57,7 @@ abbrev pub poll_of : List (List ℕ) → Result PlayAct ScriptKind
 poll_of arguments = do
   texts ← two_words_of arguments
   part ← part_of texts.0
-  max ← argument_of 1 1_000_000 texts.1
+  max ← argument_of 1 MAX_RECORDS texts.1
   Ok (play.Poll part max)
 
 -- what a word asks with its arguments
@@ -64,8 +65,8 @@ unfoldable pub asked_of : Option PlayWord → List (List ℕ) → Result PlayAct
 asked_of None arguments = Err UnknownWord
 asked_of (Some word.Assign) arguments = of_part play.Assign arguments
 asked_of (Some word.Poll) arguments = poll_of arguments
-asked_of (Some word.Take) arguments = of_number play.Take 0 255 arguments
-asked_of (Some word.End) arguments = of_number play.End 1 4_000_000 arguments
+asked_of (Some word.Take) arguments = of_number play.Take 0 (MAX_WORKERS - 1) arguments
+asked_of (Some word.End) arguments = of_number play.End 1 MAX_EVENTS arguments
 asked_of (Some word.Tick) arguments = of_number play.Tick 0 (2 ^ 63 - 1) arguments
 asked_of (Some word.Commit) arguments = of_part play.Commit arguments
 asked_of (Some word.Revoke) arguments = of_part play.Revoke arguments
@@ -111,20 +112,20 @@ or_bad_line (Err fault) = Err (read.Bad fault)
 -- the play script of a text, or its first fault
 unfoldable pub script_of : List ℕ → Result (List PlayLine) ScriptReadFault
 script_of text =
-    if nat_lt 1_000_000 (length (lines_of text)) then Err read.TooManyLines
+    if nat_lt MAX_SCRIPT_LINES (length (lines_of text)) then Err read.TooManyLines
     else or_bad_line (play_lines [] 1 (lines_of text))
 
 -- ---- what every act of a script keeps to
 
 abbrev pub IsPlayable : PlayAct → Type 0
-IsPlayable (play.Assign part) = part < 1024
-IsPlayable (play.Poll part max) = (part < 1024) × (1 ≤ max) × (max ≤ 1_000_000)
-IsPlayable (play.Take worker) = worker < 256
-IsPlayable (play.End ticket) = (1 ≤ ticket) × (ticket ≤ 4_000_000)
+IsPlayable (play.Assign part) = part < MAX_PARTS
+IsPlayable (play.Poll part max) = (part < MAX_PARTS) × (1 ≤ max) × (max ≤ MAX_RECORDS)
+IsPlayable (play.Take worker) = worker < MAX_WORKERS
+IsPlayable (play.End ticket) = (1 ≤ ticket) × (ticket ≤ MAX_EVENTS)
 IsPlayable (play.Tick now) = now < 2 ^ 63
-IsPlayable (play.Commit part) = part < 1024
-IsPlayable (play.Revoke part) = part < 1024
-IsPlayable (play.Lose part) = part < 1024
+IsPlayable (play.Commit part) = part < MAX_PARTS
+IsPlayable (play.Revoke part) = part < MAX_PARTS
+IsPlayable (play.Lose part) = part < MAX_PARTS
 IsPlayable play.Crash = ⊤
 IsPlayable play.Drain = ⊤
 IsPlayable play.Done = ⊤

@@ -2,6 +2,7 @@
 use Rattle.std.specs.Prelude.{ℕ, Bool, true, false, ◌≡◌, ◌+◌, ◌<◌, ◌≤◌, ⊤, nat_lt, ◌==◌, List, [], ◌∷◌, ◌++◌, length, fold, Option, Some, None, Result, Ok, Err, if◌then◌else◌, codes, slice_index_or}
 use Rattle.std.specs.List.{AllByRecursion}
 use Rattle.std.specs.Str.{bytes_eq}
+use Rattle.pc_model.specs.declared.limits.TheConstants.{MAX_EVENTS, MAX_PARTS, MAX_SCRIPT_LINES}
 use Rattle.pc_lines.specs.Pieces.{lines_of, words_of}
 use Rattle.pc_script.specs.declared.fault.ScriptFault.{ScriptFault}
 use Rattle.pc_script.specs.declared.fault.ScriptKind.{ScriptKind}
@@ -25,7 +26,7 @@ step_word_of text =
     else None)))
 
 abbrev pub count_of : List ℕ → Result ℕ ScriptKind
-count_of text = argument_of 0 4_000_000 text
+count_of text = argument_of 0 MAX_EVENTS text
 
 -- the count of a step, and its one part
 abbrev pub count_and_part_of : List ℕ → List (List ℕ) → Result (ℕ × ℕ) ScriptKind
@@ -130,19 +131,19 @@ or_bad_step (Err fault) = Err (read.Bad fault)
 -- the steps of a text over so many parts, or its first fault
 unfoldable pub steps_of : List ℕ → ℕ → Result (List Step) ScriptReadFault
 steps_of text parts =
-    if nat_lt 1_000_000 (length (lines_of text)) then Err read.TooManyLines
+    if nat_lt MAX_SCRIPT_LINES (length (lines_of text)) then Err read.TooManyLines
     else or_bad_step (steps_behind parts [] 1 (lines_of text))
 
 -- ---- what every step of a script keeps to
 
 abbrev pub IsAct : Act → Type 0
-IsAct (Assign part) = part < 1024
-IsAct (Revoke part) = part < 1024
-IsAct (Lose part) = part < 1024
+IsAct (Assign part) = part < MAX_PARTS
+IsAct (Revoke part) = part < MAX_PARTS
+IsAct (Lose part) = part < MAX_PARTS
 IsAct Crash = ⊤
 
 abbrev pub IsStep : Step → Type 0
-IsStep step = (step.count ≤ 4_000_000) × IsAct step.act
+IsStep step = (step.count ≤ MAX_EVENTS) × IsAct step.act
 
 abbrev pub AreSteps : List Step → Type 0
 AreSteps steps = AllByRecursion IsStep steps
@@ -156,4 +157,4 @@ AreAllowed parts before (step ∷ steps) =
 
 -- the flags say which parts are held after these steps
 abbrev pub Mirrors : List Bool → List Step → Type 0
-Mirrors flags steps = (p : ℕ) → p < 1024 → slice_index_or flags p false ≡ is_held steps p
+Mirrors flags steps = (p : ℕ) → p < MAX_PARTS → slice_index_or flags p false ≡ is_held steps p

@@ -6,12 +6,10 @@ ghost use Rattle.pc_script.specs.Arguments.{Gives, argument_of, part_of, no_word
 
 use crate::fault::{ScriptKind, ScriptReadFault};
 use pc_lines::{Words, decimal, lines, words};
+use pc_model::limits::{MAX_PARTS, MAX_SCRIPT_LINES};
 
 /// The greatest part that a script may name.
-const LAST_PART: u64 = 1023;
-
-/// The most lines that a script may have, with blank lines and comments.
-const MOST_LINES: usize = 1_000_000;
+const LAST_PART: u64 = MAX_PARTS as u64 - 1;
 
 /// The number of a word, from `least` to `most`.
 #[tactic(auto, unfolding(crate::specs::Arguments::argument_of))]
@@ -75,10 +73,10 @@ pub(crate) fn is_skipped(line: &[u8]) -> bool
 
 /// Refuses a text of more lines than a script may have.
 pub(crate) fn check_size(bytes: &[u8]) -> Result<(), ScriptReadFault>
-    ensures { let many = nat_lt 1_000_000 (length (lines_of bytes.now)) in
+    ensures { let many = nat_lt MAX_SCRIPT_LINES (length (lines_of bytes.now)) in
         result ≡ (if many then Err ScriptReadFault.TooManyLines else Ok tt) }
 {
-    if lines(bytes).count() > MOST_LINES {
+    if lines(bytes).count() > MAX_SCRIPT_LINES {
         Err(ScriptReadFault::TooManyLines)
     } else {
         Ok(())

@@ -6,9 +6,10 @@ ghost use Rattle.pc_script.specs.declared.step.Step.{Step};
 
 use crate::fault::{ScriptFault, ScriptKind};
 use crate::step::{Act, Step, written_step};
+use pc_model::limits::MAX_PARTS;
 
 /// One more than the greatest part that a script may name.
-const PARTS: usize = 1024;
+const PARTS: usize = MAX_PARTS as usize;
 
 /// The parts that are held.
 #[derive(Debug, Drop)]
@@ -46,7 +47,7 @@ impl Held {
     pub(crate) fn take(&mut self, act: Act)
         requires { IsAct act }
         ensures parts { self.new.parts ≡ self.old.parts }
-        ensures flags { (p : ℕ) → p < 1024
+        ensures flags { (p : ℕ) → p < MAX_PARTS
             → slice_index_or self.new.flags p false
             ≡ held_after p (slice_index_or self.old.flags p false) act }
     {
@@ -82,7 +83,7 @@ impl Held {
     }
 
     fn is_held(&self, part: u32) -> Result<bool, ScriptKind>
-        requires { part < 1024 }
+        requires { part < MAX_PARTS }
         ensures { result ≡ (if nat_lt part self.now.parts
             then Ok (slice_index_or self.now.flags part false) else Err ScriptKind.UnknownPart) }
     {

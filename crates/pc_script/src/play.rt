@@ -8,12 +8,9 @@ use crate::argument::{argument, no_word, one_word, part, two_words};
 use crate::fault::ScriptKind;
 use crate::play_word::{PlayWord, play_word};
 use pc_lines::{Words, words};
+use pc_model::limits::{MAX_EVENTS, MAX_RECORDS, MAX_WORKERS};
 
-const MOST_POLLED: u64 = 1_000_000;
-
-const LAST_WORKER: u64 = 255;
-
-const LAST_TICKET: u64 = 4_000_000;
+const LAST_WORKER: u64 = MAX_WORKERS as u64 - 1;
 
 const LAST_TIME: u64 = (1 << 63) - 1;
 
@@ -73,7 +70,7 @@ fn asked(word: PlayWord, arguments: Words<'_>) -> Result<PlayAct, ScriptKind>
         PlayWord::Assign => Ok(PlayAct::Assign(part(one_word(arguments)?)?)),
         PlayWord::Poll => poll(arguments),
         PlayWord::Take => Ok(PlayAct::Take(argument(one_word(arguments)?, 0, LAST_WORKER)? as u32)),
-        PlayWord::End => Ok(PlayAct::End(argument(one_word(arguments)?, 1, LAST_TICKET)?)),
+        PlayWord::End => Ok(PlayAct::End(argument(one_word(arguments)?, 1, MAX_EVENTS)?)),
         PlayWord::Tick => Ok(PlayAct::Tick(argument(one_word(arguments)?, 0, LAST_TIME)?)),
         PlayWord::Commit => Ok(PlayAct::Commit(part(one_word(arguments)?)?)),
         PlayWord::Revoke => Ok(PlayAct::Revoke(part(one_word(arguments)?)?)),
@@ -90,7 +87,7 @@ fn poll(arguments: Words<'_>) -> Result<PlayAct, ScriptKind>
 {
     let (first, second) = two_words(arguments)?;
     let part = part(first)?;
-    let max = argument(second, 1, MOST_POLLED)? as u32;
+    let max = argument(second, 1, MAX_RECORDS as u64)? as u32;
     Ok(PlayAct::Poll { part, max })
 }
 

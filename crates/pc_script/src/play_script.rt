@@ -10,6 +10,7 @@ use crate::argument::{check_size, is_skipped};
 use crate::fault::{ScriptFault, ScriptReadFault};
 use crate::play::{PlayLine, play_act};
 use pc_lines::lines;
+use pc_model::limits::MAX_SCRIPT_LINES;
 use std::alloc::Global;
 use std::marker::Model;
 
@@ -69,7 +70,7 @@ pub fn read_play(alloc: Global, bytes: &[u8]) -> Result<PlayScript, ScriptReadFa
 }
 
 fn read_lines(alloc: Global, bytes: &[u8]) -> Result<Vec<PlayLine>, ScriptReadFault>
-    requires { length (lines_of bytes.now) ≤ 1_000_000 }
+    requires { length (lines_of bytes.now) ≤ MAX_SCRIPT_LINES }
     ensures { let read = play_lines [] 1 (lines_of bytes.now) in
         Reads (λ script. script.items) result (or_bad_line read) }
 {

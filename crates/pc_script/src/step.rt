@@ -8,8 +8,7 @@ use crate::argument::{argument, no_word, one_word, part};
 use crate::fault::ScriptKind;
 use crate::step_word::{StepWord, step_word};
 use pc_lines::{Words, words};
-
-const LAST_COUNT: u64 = 4_000_000;
+use pc_model::limits::MAX_EVENTS;
 
 /// What moves. Parts are below 1,024.
 #[derive(Clone, Copy, Debug, PartialEq, Eq)]
@@ -91,14 +90,14 @@ fn count_and_part(count: &[u8], arguments: Words<'_>) -> Result<(u64, u32), Scri
     ensures { result ≡ count_and_part_of count.now arguments.entry }
 {
     let text = one_word(arguments)?;
-    Ok((argument(count, 0, LAST_COUNT)?, part(text)?))
+    Ok((argument(count, 0, MAX_EVENTS)?, part(text)?))
 }
 
 fn crash(count: &[u8], arguments: Words<'_>) -> Result<Step, ScriptKind>
     ensures { result ≡ crash_step count.now arguments.entry }
 {
     no_word(arguments)?;
-    let count = argument(count, 0, LAST_COUNT)?;
+    let count = argument(count, 0, MAX_EVENTS)?;
     Ok(Step {
         count,
         act: Act::Crash,

@@ -11,6 +11,7 @@ use crate::fault::ScriptReadFault;
 use crate::held::Held;
 use crate::step::Step;
 use pc_lines::lines;
+use pc_model::limits::MAX_SCRIPT_LINES;
 use std::alloc::Global;
 use std::marker::Model;
 
@@ -62,7 +63,7 @@ pub fn read_steps(alloc: Global, bytes: &[u8], parts: u32) -> Result<Steps, Scri
 }
 
 fn read_lines(alloc: Global, bytes: &[u8], parts: u32) -> Result<Vec<Step>, ScriptReadFault>
-    requires { length (lines_of bytes.now) ≤ 1_000_000 }
+    requires { length (lines_of bytes.now) ≤ MAX_SCRIPT_LINES }
     ensures { let read = steps_behind parts [] 1 (lines_of bytes.now) in
         Reads (λ steps. steps.items) result (or_bad_step read) }
 {

@@ -21,18 +21,18 @@ key_of-entry Partition p busy r = refl
 key_of-entry Key p busy r = refl
 
 module _ (given : Given) (h : List Event) (p : ℕ) (busy : Record → Bool) where
-  before-entry : (q r : Record) → is_before given.setup.order p (entry_of busy q) (entry_of busy r)
+  before-entry : (q r : Record) → is_before given.setup.settings.order p (entry_of busy q) (entry_of busy r)
       ≡ is_before_record given p q r
   before-entry q r = rw (
-    key_of-entry given.setup.order p busy q,
-    key_of-entry given.setup.order p busy r,
+    key_of-entry given.setup.settings.order p busy q,
+    key_of-entry given.setup.settings.order p busy r,
   ) refl
 
-  first-among : (r : Record) (rs : List Record) → is_first given.setup.order p
+  first-among : (r : Record) (rs : List Record) → is_first given.setup.settings.order p
       (map (entry_of busy) (filter (λ q. not (is_complete h p q.offset)) rs)) (entry_of busy r)
       ≡ list_all (λ q. not (is_before_record given p q r) || is_complete h p q.offset) rs
   first-among r [] = refl
-  first-among r (q ∷ rs) = elim (is_complete h p q.offset) as (λ c. is_first given.setup.order p
+  first-among r (q ∷ rs) = elim (is_complete h p q.offset) as (λ c. is_first given.setup.settings.order p
       (map (entry_of busy) (cond (not c) (q ∷ filter (λ q. not (is_complete h p q.offset)) rs)
       (filter (λ q. not (is_complete h p q.offset)) rs))) (entry_of busy r)
       ≡ ((not (is_before_record given p q r) || c)
@@ -57,13 +57,13 @@ module _ (given : Given) (h : List Event) (p : ℕ) (busy : Record → Bool) whe
       or-false false = refl
 
   -- it is the first of its key where its record is
-  pub is_first-entry : (r : Record) → is_first given.setup.order p (open_entries given h p busy)
+  pub is_first-entry : (r : Record) → is_first given.setup.settings.order p (open_entries given h p busy)
       (entry_of busy r) ≡ is_first_record given h p r
   unfolding is_first_record
   is_first-entry r = first-among r (polled_records given h p)
 
   abbrev is_kept : Entry → Bool
-  is_kept e = is_first given.setup.order p (open_entries given h p busy) e && not e.is_busy
+  is_kept e = is_first given.setup.settings.order p (open_entries given h p busy) e && not e.is_busy
 
   abbrev is_next : Record → Bool
   is_next r = is_first_record given h p r && not (busy r)
@@ -103,7 +103,7 @@ module _ (given : Given) (h : List Event) (p : ℕ) (busy : Record → Bool) whe
 
   -- the ready offsets are those of the polled records that are incomplete, first of their key and
   -- not busy
-  pub ready_offsets-records : ready_offsets given.setup.order p (open_entries given h p busy)
+  pub ready_offsets-records : ready_offsets given.setup.settings.order p (open_entries given h p busy)
       ≡ map (λ r. r.offset) (filter (λ r. not (is_complete h p r.offset)
       && (is_first_record given h p r && not (busy r))) (polled_records given h p))
   ready_offsets-records = ready-among (polled_records given h p)

@@ -6,7 +6,7 @@ use Rattle.std.specs.Prelude.{nat_lt}
 use Rattle.pc_state_lock.specs.History.{Continues, longer, covers, times_covered}
 
 -- a test holds or does not
-pub true_or_false : (b : Bool) → (b ≡ true) ⊎ (b ≡ false)
+true_or_false : (b : Bool) → (b ≡ true) ⊎ (b ≡ false)
 true_or_false true = inl refl
 true_or_false false = inr refl
 
@@ -35,7 +35,7 @@ module _ {A : Type 0} where
   nothing_added (x ∷ added) ys xs e l = absurd (omega (arith, ap length e, length-append added xs))
 
   -- a list that is no longer than one it continues is that one
-  pub Continues-whole : (ys xs : List A) → Continues ys xs → length ys ≤ length xs → ys ≡ xs
+  Continues-whole : (ys xs : List A) → Continues ys xs → length ys ≤ length xs → ys ≡ xs
   Continues-whole ys xs f l = nothing_added f.added ys xs f.is l
 
   overlap : (p q ys xs : List A) → p ++ ys ≡ q ++ xs → length xs ≤ length ys → Continues ys xs
@@ -44,11 +44,11 @@ module _ {A : Type 0} where
   overlap (x ∷ p) (y ∷ q) ys xs e l = let same : p ++ ys ≡ q ++ xs = cc in overlap p q ys xs same l
 
   -- of two lists that one list continues, the longer continues the shorter
-  pub Continues-between : (zs ys xs : List A) → Continues zs ys → Continues zs xs → length xs ≤ length ys
+  Continues-between : (zs ys xs : List A) → Continues zs ys → Continues zs xs → length xs ≤ length ys
       → Continues ys xs
   Continues-between zs ys xs f g l = overlap f.added g.added ys xs (sym f.is ∙ g.is) l
 
-  pub longer-cases : (xs ys : List A) → ((length xs < length ys)
+  longer-cases : (xs ys : List A) → ((length xs < length ys)
       × (longer xs ys ≡ ys)) ⊎ ((length ys ≤ length xs) × (longer xs ys ≡ xs))
   longer-cases xs ys = ⊎_elim
       (λ (e : nat_lt (length xs) (length ys) ≡ true). inl (
@@ -91,7 +91,7 @@ module _ {A : Type 0} where
       (λ (t : (length ys ≤ length xs) × (longer xs ys ≡ xs)). t.1 ∙ e)
       (longer-cases xs ys)
 
-  pub longer-either : (xs ys : List A) → (longer xs ys ≡ xs) ⊎ (longer xs ys ≡ ys)
+  longer-either : (xs ys : List A) → (longer xs ys ≡ xs) ⊎ (longer xs ys ≡ ys)
   longer-either xs ys = ⊎_elim
       (λ (t : (length xs < length ys) × (longer xs ys ≡ ys)). inr t.1)
       (λ (t : (length ys ≤ length xs) × (longer xs ys ≡ xs)). inl t.1)

@@ -2,7 +2,7 @@
 use Rattle.std.specs.Prelude.{ℕ, ◌≡◌, ◌≤◌, ◌<◌, ◌-◌, ◌^◌, ◌⊎◌, ◌++◌, true, List, length, Option, Some, Result, Ok}
 use Rattle.std.specs.List.{AllByRecursion}
 use Rattle.std.specs.Str.{is_utf8}
-use Rattle.pc_model.specs.declared.api.TheConstants.{METADATA_MAX}
+use Rattle.pc_model.specs.declared.limits.TheConstants.{MAX_METADATA_BYTES}
 use Rattle.pc_model.specs.declared.commit.Commit.{Commit}
 use Rattle.pc_model.specs.declared.wire_fault.WireFault.{WireFault}
 use Rattle.pc_model.specs.Broker.{Broker, Request, after_some}
@@ -28,7 +28,7 @@ pub record MayStore (read : Result Request WireFault) (before after : Broker) : 
 -- what a broker stores: a position of 63 bits, and a text of at most 4,096 bytes
 pub record IsStorable (c : Commit) : Type 0 where
   pub position : c.position < 2 ^ 63
-  pub short : length c.map ≤ METADATA_MAX
+  pub short : length c.map ≤ MAX_METADATA_BYTES
   pub utf8 : is_utf8 c.map ≡ true
 
 -- every commit of the broker is such

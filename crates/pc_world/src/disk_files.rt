@@ -3,7 +3,8 @@
 ghost use Rattle.std.specs.Prelude.{◌≡◌, ◌+◌, ◌≤◌, OnErr, OnOk, take, vec_len};
 
 use crate::failed_reads::FailedReads;
-use crate::files::{FILE_BYTES_MAX, Files, FilesFault};
+use crate::files::{Files, FilesFault};
+use pc_model::limits::MAX_FILE_BYTES;
 use std::alloc::Global;
 use std::io::Read;
 use std::{fs, io};
@@ -27,7 +28,7 @@ impl<'a, R: std::rt::Files> DiskFiles<'a, R> {
         ensures { take (vec_len into.old) into.new.items ≡ into.old.items }
     {
         let file = fs::open(self.rt, name)?;
-        file.take(FILE_BYTES_MAX + 1).read_to_end(into)?;
+        file.take(MAX_FILE_BYTES + 1).read_to_end(into)?;
         Ok(())
     }
 }
@@ -47,7 +48,7 @@ impl<'a, R: std::rt::Files> Files for DiskFiles<'a, R> {
             self.failed.add(name)?;
             return Err(FilesFault::Failed);
         }
-        if (into.len() - start) as u64 > FILE_BYTES_MAX {
+        if (into.len() - start) as u64 > MAX_FILE_BYTES {
             into.truncate(start);
             return Err(FilesFault::TooLong);
         }

@@ -4,11 +4,9 @@ ghost use Rattle.std.specs.Prelude.{◌≡◌, ◌≤◌, ◌<◌, List, ℕ, Op
 ghost use Rattle.pc_world.specs.World.{HasRisen, AppendsFile};
 ghost use Rattle.pc_world.specs.declared.files.FilesFault.TheVariants.{NoMemory};
 
+use pc_model::limits::MAX_FILE_BYTES;
 use std::alloc::{AllocError, AllocFailed};
 use thiserror::Error;
-
-/// The most bytes that a file may have.
-pub const FILE_BYTES_MAX: u64 = 268_435_456;
 
 /// Why a file could not be read.
 #[derive(Clone, Copy, Debug, PartialEq, Eq, Error)]
@@ -53,11 +51,11 @@ pub trait Files {
     /// a failure `into` is as before. Every call leaves the contents and the counts of other names
     /// as they were.
     fn read(&mut self, name: &str, into: &mut Vec<u8>) -> Result<(), FilesFault>
-        ensures contents { OnOk result (AppendsFile FILE_BYTES_MAX (told self.old name.now) into.old.items into.new.items) }
+        ensures contents { OnOk result (AppendsFile MAX_FILE_BYTES (told self.old name.now) into.old.items into.new.items) }
         ensures stays { OnErr result (into.new.items ≡ into.old.items) }
         ensures failed { result ≡ Err FilesFault.Failed → HasRisen (faults self.old name.now) (faults self.new name.now) }
         ensures too_long { result ≡ Err FilesFault.TooLong → (bytes : List ℕ) → told self.old name.now ≡ Some bytes
-            → FILE_BYTES_MAX < length bytes }
+            → MAX_FILE_BYTES < length bytes }
         ensures keeps { (n : List ℕ) → told self.new n ≡ told self.old n }
         ensures others { (n : List ℕ) → (n ≡ name.now → ⊥) → faults self.new n ≡ faults self.old n }
         ensures count { (n : List ℕ) → faults self.old n ≤ faults self.new n };

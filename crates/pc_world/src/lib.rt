@@ -15,8 +15,8 @@ mod std_sink;
 
 pub use disk_files::DiskFiles;
 pub use failing_link::FailingLink;
-pub use files::{FILE_BYTES_MAX, Files, FilesFault};
-pub use link::{FRAME_BYTES_MAX, Link, LinkFault};
+pub use files::{Files, FilesFault};
+pub use link::{Link, LinkFault, MAX_FRAME_BYTES};
 pub use memory_files::MemoryFiles;
 pub use memory_sink::MemorySink;
 pub use sink::{Sink, SinkFailed};

@@ -9,7 +9,7 @@ use std::alloc::{AllocError, AllocFailed};
 use thiserror::Error;
 
 /// The most bytes that a frame may have which a link is given.
-pub const FRAME_BYTES_MAX: usize = 262_144;
+pub const MAX_FRAME_BYTES: usize = 262_144;
 
 /// Why a link did not answer.
 #[derive(Clone, Copy, Debug, PartialEq, Eq, Error)]
@@ -54,7 +54,7 @@ pub trait Link {
     /// first items of the frame then, from none to all. After `NoMemory` it stores what it stored.
     /// A told store has positions up to 2^63 - 1, and texts of at most 4,096 bytes.
     fn call(&mut self, frame: &[u8]) -> Result<Vec<u8>, LinkFault>
-        requires short { length frame.now ≤ FRAME_BYTES_MAX }
+        requires short { length frame.now ≤ MAX_FRAME_BYTES }
         requires reads { IsOk (request_reading frame.now) }
         ensures answered { is_told self.old ≡ true → IfOk result
             (λ reply. broker_step (store self.old) frame.now ≡ Ok (reply.items, store self.new)) }

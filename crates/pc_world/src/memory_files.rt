@@ -5,7 +5,8 @@ ghost use Rattle.std.specs.Borrow.{Bor};
 
 use crate::failed_reads::FailedReads;
 use crate::faults::Faults;
-use crate::files::{FILE_BYTES_MAX, Files, FilesFault};
+use crate::files::{Files, FilesFault};
+use pc_model::limits::MAX_FILE_BYTES;
 use std::alloc::{AllocError, Global};
 
 /// A file: its name and its contents.
@@ -85,7 +86,7 @@ impl Files for MemoryFiles {
             self.failed.add(name)?;
             return Err(FilesFault::Failed);
         };
-        if file.bytes.len() as u64 > FILE_BYTES_MAX {
+        if file.bytes.len() as u64 > MAX_FILE_BYTES {
             return Err(FilesFault::TooLong);
         }
         into.extend_from_slice(file.bytes.as_slice())?;

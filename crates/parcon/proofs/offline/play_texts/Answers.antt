@@ -11,10 +11,10 @@ use Rattle.parcon.proofs.PromiseLemmas.{plays-along, plays-none, status-of}
 use Rattle.parcon.proofs.offline.play_texts.Goals as goal
 
 pub play_setup-requires-clause-order : goal.play_setup-requires-clause-order
-play_setup-requires-clause-order g c = ap (λ (s : Setup). s.order) c.in-Ok.ensures.setup
+play_setup-requires-clause-order g c = ap (λ (s : Setup). s.settings.order) c.in-Ok.ensures.setup
 
 pub play_setup-requires-clause-fails : goal.play_setup-requires-clause-fails
-play_setup-requires-clause-fails g c = ap (λ (s : Setup). s.rules.fails) c.in-Ok.ensures.setup
+play_setup-requires-clause-fails g c = ap (λ (s : Setup). s.settings.rules.fails) c.in-Ok.ensures.setup
 
 pub returns-in-Ok : goal.returns-in-Ok
 returns-in-Ok g c =

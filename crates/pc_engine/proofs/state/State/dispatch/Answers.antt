@@ -35,7 +35,7 @@ busy-requires c =
 pub returns-clause-job : goal.returns-clause-job
 returns-clause-job c = λ given h knows next. job-due given h c.args.self.now c.args.worker
     c.args.part
-    c.args.offset c.index.result.now (plain c.in-Some.entry) c.args.self.now.setup.now.rules knows
+    c.args.offset c.index.result.now (plain c.in-Some.entry) c.args.self.now.setup.now.settings.rules knows
     next
     c.index.ensures c.in-Some.ensures refl
 

@@ -8,7 +8,7 @@ use Rattle.pc_engine.proofs.state.State.expects.Goals as goal
 pub returns-in-Some : goal.returns-in-Some
 returns-in-Some c = λ given h knows. expected-found given h c.args.self.now
     (finished_job c.args.done.now)
-    (plain c.in-Some.entry) c.args.self.now.setup.now.rules c.get.result c.is_of.result knows
+    (plain c.in-Some.entry) c.args.self.now.setup.now.settings.rules c.get.result c.is_of.result knows
     (c.get.ensures h knows.jobs)
     (out-same c.get.result _ c.ne.result c.if-ne.false c.ne.ensures) c.in-Some.ensures refl
     c.is_of.ensures
