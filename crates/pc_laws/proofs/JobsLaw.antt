@@ -29,7 +29,7 @@ use Rattle.pc_laws.proofs.OrderlyLaw.{next_record-In, polled-record, eligible-fr
 
 -- ---- keys
 
-same_key-refl : (k : OrderingKey) → same_key k k ≡ true
+pub same_key-refl : (k : OrderingKey) → same_key k k ≡ true
 same_key-refl (OfRecord p o) = rw (same_number p, same_number o) refl
 same_key-refl (OfPart p) = same_number p
 same_key-refl (OfKey p None) = rw (same_number p) refl
@@ -66,7 +66,7 @@ or-false-right : (a b : Bool) → (a || b) ≡ false → b ≡ false
 or-false-right false b e = e
 or-false-right true b e = cc
 
-open-before : (v : Event) (h : List Event) (j : Job) → jobs_of (v ∷ h) ≡ jobs_of h → In j
+pub open-before : (v : Event) (h : List Event) (j : Job) → jobs_of (v ∷ h) ≡ jobs_of h → In j
     (open_jobs (v ∷ h))
     → In j (open_jobs h) × (settles v j.ticket ≡ false)
 open-before v h j same i =
@@ -80,7 +80,7 @@ open-before v h j same i =
     )
 
 -- a job that is out was dispatched
-open-job : (h : List Event) (j : Job) → In j (open_jobs h) → In j (jobs_of h)
+pub open-job : (h : List Event) (j : Job) → In j (open_jobs h) → In j (jobs_of h)
 open-job h j i = (In-filtered (λ (x : Job). not (is_settled h x.ticket)) j (jobs_of h) i).0
 
 -- ---- one more event that dispatches none
@@ -134,7 +134,7 @@ still-past : (e n : ℕ) (held : Bool) → (e < n) ⊎ ((e ≡ n) × (held ≡ t
 still-past e n held (inl lt) = omega arith
 still-past e n held (inr same) = let is : e ≡ n = same.0 in omega arith
 
-not-current : (e n : ℕ) (held before : Bool) → (e < n) ⊎ ((e ≡ n) × (before ≡ true)) →
+pub not-current : (e n : ℕ) (held before : Bool) → (e < n) ⊎ ((e ≡ n) × (before ≡ true)) →
     (held && (e == n + 1)) ≡ true → ⊥
 not-current e n held before past current =
     let is : e ≡ n + 1 = eqb-true e (n + 1) (and-right held _ current) in
@@ -177,7 +177,7 @@ out-job h t out current = elim (option_cases (job_of h t)) [
 
 -- ---- two jobs at one offset have one key
 
-find-some : (o : ℕ) (r : Record) (rs : List Record) → In r rs → r.offset ≡ o →
+pub find-some : (o : ℕ) (r : Record) (rs : List Record) → In r rs → r.offset ≡ o →
     (q : Record) × (find (λ x. x.offset == o) rs ≡ Some q)
 find-some o r [] i at = absurd i
 find-some o r (q ∷ qs) (inl same) at =
@@ -194,7 +194,7 @@ at-one-offset given i j part offset =
     ∙ ap (λ (o : ℕ). option_map (ordering_key given.setup.settings.order j.part) (record_at given j.part o))
     offset
 
-has-own-key : (given : Given) (j : Job) (k : OrderingKey) → job_key given j ≡ Some k →
+pub has-own-key : (given : Given) (j : Job) (k : OrderingKey) → job_key given j ≡ Some k →
     has_key given k j ≡ true
 has-own-key given j k is = rw is (same_key-refl k)
 
@@ -364,7 +364,7 @@ keeps-failure given h t code ready keeps out now =
 
 -- ---- a dispatch
 
-dispatch-key : (given : Given) (h : List Event) (p o : ℕ) (r : Record) (key : OrderingKey) →
+pub dispatch-key : (given : Given) (h : List Event) (p o : ℕ) (r : Record) (key : OrderingKey) →
     IsLegal given h
     → In r (polled_records given h p) → r.offset ≡ o
     → option_map_or (same_key key)

@@ -14,3 +14,5 @@ pub mod HeldLaw
 pub mod JobsLaw
 pub mod SucceededLaw
 pub mod KeptLaw
+pub mod FailedLaw
+pub mod FirstLaw

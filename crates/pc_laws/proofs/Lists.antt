@@ -40,6 +40,13 @@ not-false false e = cc
 pub true-not-false : {P : Type 0} (a : Bool) → a ≡ true → a ≡ false → P
 true-not-false a e f = cc
 
+-- two tests are the same where each is passed with the other
+pub same_test : (a b : Bool) → (a ≡ true → b ≡ true) → (b ≡ true → a ≡ true) → a ≡ b
+same_test true true f g = refl
+same_test true false f g = sym (f refl)
+same_test false true f g = g refl
+same_test false false f g = refl
+
 -- ---- members
 
 module _ {X : Type 0} where
@@ -102,6 +109,15 @@ module _ {X : Type 0} where
   list_any-In f x [] i e = elim i [ ]
   list_any-In f x (y ∷ ys) (inl same) e = or-left (f y) (list_any f ys) (rw (← same) e)
   list_any-In f x (y ∷ ys) (inr i) e = or-right (f y) (list_any f ys) (list_any-In f x ys i e)
+
+  -- tests that agree on each item find the same
+  pub list_any-each : (f g : X → Bool) (xs : List X) →
+      ((x : X) → In x xs → f x ≡ g x) → list_any f xs ≡ list_any g xs
+  list_any-each f g [] same = refl
+  list_any-each f g (y ∷ ys) same = rw (
+    same y (inl refl),
+    list_any-each f g ys (λ x i. same x (inr i)),
+  ) refl
 
   pub list_all-In : (f : X → Bool) (x : X) (xs : List X) → list_all f xs ≡ true → In x xs → f x
       ≡ true

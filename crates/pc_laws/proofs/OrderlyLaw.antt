@@ -84,7 +84,7 @@ module _ (given : Given) (h : List Event) (p : ℕ) (r : Record)
   eligible-free = not-true _
       (and-right _ _ (and-left _ _ (and-left _ _ (and-left _ _ (and-left _ _ eligible)))))
 
-  eligible-first : is_first given h p r ≡ true
+  pub eligible-first : is_first given h p r ≡ true
   unfolding is_eligible_record
   eligible-first = and-right _ _ (and-left _ _ (and-left _ _ (and-left _ _ eligible)))
 

@@ -22,7 +22,7 @@ use Rattle.pc_laws.proofs.JobsLaw.{job-of, out-job, keeps_jobs}
 
 -- ---- an epoch that is still to come
 
-epoch-before : (v : Event) (h : List Event) (p : ℕ) → epoch_of h p ≤ epoch_of (v ∷ h) p
+pub epoch-before : (v : Event) (h : List Event) (p : ℕ) → epoch_of h p ≤ epoch_of (v ∷ h) p
 epoch-before v h p = elim (cases_Bool (moves v p))
     [ inl moved ↦ rw moved (omega arith) | inr still ↦ rw still (omega arith) ]
 
@@ -32,7 +32,7 @@ not-early e x n held (inl past) later is = omega arith
 not-early e x n held (inr present) later is = let same : x ≡ n = present.0 in omega arith
 
 -- a test of a job is one of its part, its epoch and its offset
-job-at : (j : Job) (p e o : ℕ) → is_job_at (Some j) p e o ≡ true →
+pub job-at : (j : Job) (p e o : ℕ) → is_job_at (Some j) p e o ≡ true →
     (j.part ≡ p) × (j.epoch ≡ e) × (j.offset ≡ o)
 job-at j p e o at = let first = and-left _ _ at in (
   eqb-true j.part p (and-left _ _ first),
@@ -41,7 +41,7 @@ job-at j p e o at = let first = and-left _ _ at in (
 )
 
 -- the job of a ticket is of no epoch that is still to come
-early-job : (given : Given) (h : List Event) (t p e o : ℕ) → IsLegal given h → epoch_of h p < e →
+pub early-job : (given : Given) (h : List Event) (t p e o : ℕ) → IsLegal given h → epoch_of h p < e →
     is_job_at (job_of h t) p e o ≡ false
 early-job given h t p e o legal later = elim (option_cases (job_of h t)) [
   | inl none ↦ rw none refl
@@ -68,11 +68,11 @@ unsucceeded-later given (v ∷ h) legal p e o later =
 -- ---- the present epoch
 
 -- a polled record of the part at the offset
-abbrev WasPolled : Given → List Event → ℕ → ℕ → Type 0
+abbrev pub WasPolled : Given → List Event → ℕ → ℕ → Type 0
 WasPolled given h p o = (r : Record) × In r (polled_records given h p) × (r.offset ≡ o)
 
 -- the job of a success that is lawful now was at work on a polled record
-success-polled : (given : Given) (h : List Event) (t p o : ℕ) → IsLegal given h
+pub success-polled : (given : Given) (h : List Event) (t p o : ℕ) → IsLegal given h
     → is_outstanding h t ≡ true → is_current_ticket h t ≡ true
     → is_job_at (job_of h t) p (epoch_of h p) o ≡ true → WasPolled given h p o
 success-polled given h t p o legal out now at =

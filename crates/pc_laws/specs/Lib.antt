@@ -2,3 +2,5 @@ pub mod Lists
 pub mod Kept
 pub mod Positions
 pub mod Stall
+pub mod First
+pub mod Failed

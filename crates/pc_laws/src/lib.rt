@@ -4,23 +4,26 @@
 //! Each function does nothing; its clause is the law, for every setup, log, start and history.
 #![tactic(auto)]
 
-ghost use Rattle.std.specs.Prelude.{ℕ, List, [], ◌∷◌, ◌++◌, ◌≡◌, ◌≤◌, ◌<◌, ◌⊎◌, true, false};
+ghost use Rattle.std.specs.Prelude.{ℕ, List, [], ◌∷◌, ◌++◌, ◌≡◌, ◌≤◌, ◌<◌, ◌⊎◌, true, false, Some};
+ghost use Rattle.std.specs.List.{list_any};
 ghost use Rattle.pc_model.specs.declared.event.Event.{Event};
 ghost use Rattle.pc_model.specs.declared.event.Event.TheVariants.{Stale, Done};
 ghost use Rattle.pc_model.specs.declared.commit.Commit.{Commit};
 ghost use Rattle.pc_model.specs.Record.{Record};
 ghost use Rattle.pc_model.specs.Given.{Given, records_of};
-ghost use Rattle.pc_model.specs.Jobs.{is_draining};
-ghost use Rattle.pc_model.specs.Epochs.{epoch_of, is_held, moves};
+ghost use Rattle.pc_model.specs.Jobs.{Job, is_draining, open_jobs};
+ghost use Rattle.pc_model.specs.Epochs.{epoch_of, is_held, is_current, moves};
 ghost use Rattle.pc_model.specs.Stored.{may_store, passes};
-ghost use Rattle.pc_model.specs.Known.{polled_records, unpolled_records, has_succeeded, is_complete, position_of};
-ghost use Rattle.pc_model.specs.Next.{eligible_offsets, next_record};
+ghost use Rattle.pc_model.specs.Known.{polled_records, unpolled_records, is_job_at, has_succeeded, is_complete, position_of};
+ghost use Rattle.pc_model.specs.Next.{ordering_key, is_busy, is_first, eligible_offsets, next_record};
 ghost use Rattle.pc_model.specs.Lawful.{IsLegal};
 ghost use Rattle.pc_model.specs.Sound.{IsSound, IsOrderly};
 ghost use Rattle.pc_laws.specs.Lists.{In};
 ghost use Rattle.pc_laws.specs.Kept.{IsKept, is_assign_of};
 ghost use Rattle.pc_laws.specs.Positions.{PositionsRise};
 ghost use Rattle.pc_laws.specs.Stall.{HasWork, GoesOn};
+ghost use Rattle.pc_laws.specs.Failed.{IsUnfailed};
+ghost use Rattle.pc_laws.specs.First.{IsFirstOfItsKey};
 
 /// Nothing is passed over that was not done, over a link that tells its store. A prefix of a legal
 /// history is legal, so this says it of every prefix.
@@ -103,4 +106,29 @@ pub fn successes_were_polled()
     ensures { (given : Given) (h : List Event) → IsLegal given h → (p o : ℕ) → is_held h p ≡ true
         → has_succeeded h p (epoch_of h p) o ≡ true
         → (r : Record) × In r (polled_records given h p) × (r.offset ≡ o) }
+{}
+
+/// No failure is of a record that is still to be polled, nor of an epoch that has just begun.
+pub fn unpolled_never_failed()
+    ensures unpolled { (given : Given) (h : List Event) → IsLegal given h → (p : ℕ) →
+        is_held h p ≡ true → (r : Record) → In r (unpolled_records given h p)
+        → IsUnfailed h p (epoch_of h p) r.offset }
+    ensures begun { (given : Given) (event : Event) (h : List Event) → IsLegal given h → (p o : ℕ)
+        → moves event p ≡ true → IsUnfailed (event ∷ h) p (epoch_of (event ∷ h) p) o }
+{}
+
+/// Of the key of a current job that is out, each polled record before the job's is complete.
+pub fn first_of_its_key()
+    ensures { (given : Given) (h : List Event) → IsLegal given h → (j : Job) → In j (open_jobs h)
+        → is_current h j ≡ true → IsFirstOfItsKey given h j }
+{}
+
+/// The key of a record that is incomplete and the first of its key is busy exactly where a job of
+/// the present epoch is out at that very record.
+pub fn busy_by_its_own_job()
+    ensures { (given : Given) (h : List Event) → IsLegal given h → (p : ℕ) (r : Record)
+        → is_held h p ≡ true → In r (polled_records given h p)
+        → is_complete h p r.offset ≡ false → is_first given h p r ≡ true
+        → is_busy given h (ordering_key given.setup.settings.order p r)
+        ≡ list_any (λ j. is_job_at (Some j) p (epoch_of h p) r.offset) (open_jobs h) }
 {}

@@ -4,7 +4,7 @@
 
 mod queue;
 
-pub use queue::RetryQueue;
+pub use queue::{Retry, RetryQueue};
 
 #[cfg(test)]
 mod tests;

@@ -115,4 +115,12 @@ impl RetryQueue {
     {
         self.heap.retain(|retry| retry.0.part != part);
     }
+
+    /// Takes out all records. Takes no memory, and keeps the room.
+    pub fn clear(&mut self)
+        ensures retries { self.new.retries ≡ [] }
+        ensures room { self.old.room ≤ self.new.room }
+    {
+        self.heap.clear();
+    }
 }
