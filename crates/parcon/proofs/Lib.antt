@@ -1,6 +1,8 @@
 mod LogFaultLemmas
 mod WrittenLemmas
-mod CommandLemmas
+mod WordLooks
+mod WordSteps
+mod WordsLemmas
 mod ListLemmas
 mod ReadingLemmas
 mod PlanLemmas

@@ -13,8 +13,9 @@ use Rattle.pc_cursor.specs.Log.{all_batches, all_records, batches_of, contents_o
 use Rattle.pc_cursor.proofs.LogLaws.{batches_of-is}
 use Rattle.pc_cursor.proofs.Standing.{checked-rise}
 use Rattle.parcon.specs.declared.status.Status.{Status}
-use Rattle.parcon.specs.Reading.{◌>>=◌, ReadAnswer, FileRead, FileText, FileTexts, Reads, answered, files_answered, log_answered, logs_answered, within}
-use Rattle.parcon.specs.Command.{command_of}
+use Rattle.parcon.specs.Reading.{◌>>=◌, ReadAnswer, FileRead, FileText, FileTexts, Reads, answered, command_answered, config_answered, files_answered, log_answered, logs_answered, within}
+use Rattle.parcon.specs.Command.{Command, command_of}
+use Rattle.parcon.specs.Command.Command.{Play}
 use Rattle.parcon.specs.Reading.ReadAnswer.{Bytes, Failed, TooLong}
 use Rattle.pc_broker_log.specs.declared.fault.AddFault.{AddFault}
 use Rattle.pc_broker_log.specs.declared.fault.AddFault.TheVariants.{NoMemory, TooManyRecords}
@@ -121,15 +122,24 @@ logs-read-are used (read ∷ reads) texts is =
 pub files-logs : (words : List (List ℕ)) (reads : Reads) (texts : FileTexts)
     → files_answered words reads ≡ Ok texts → logs_answered 0 reads.logs ≡ Ok texts.logs
 files-logs words reads texts is =
-    let named = went (ok_or (command_of words) Usage) (λ files. logs_answered 0 reads.logs
-    >>= λ logs. answered files.script reads.script
-    >>= λ script. Ok (record { logs = logs; script = script })) texts is in
-    let logs = went (logs_answered 0 reads.logs) (λ logs. answered named.x.script reads.script
-    >>= λ script. Ok (record { logs = logs; script = script })) texts named.then in
-    let script = went (answered named.x.script reads.script)
-    (λ script. Ok (record { logs = logs.x; script = script })) texts logs.then in
-    logs.first ∙ ap (λ (t : FileTexts). Ok t.logs)
-    (ok-is (record { logs = logs.x; script = script.x }) texts script.then)
+    let named = went (ok_or (command_of words) Usage) (λ command. command_answered command reads)
+    texts is in
+    by named.x named.then
+  where
+    by : (command : Command) → command_answered command reads ≡ Ok texts
+        → logs_answered 0 reads.logs ≡ Ok texts.logs
+    by (Play files) is =
+        let config = went (config_answered files.config reads.config) (λ config.
+        logs_answered 0 reads.logs >>= λ logs. answered files.script reads.script
+        >>= λ script. Ok (record { config = config; logs = logs; script = script })) texts is in
+        let logs = went (logs_answered 0 reads.logs) (λ logs. answered files.script reads.script
+        >>= λ script. Ok (record { config = config.x; logs = logs; script = script })) texts
+        config.then in
+        let script = went (answered files.script reads.script)
+        (λ script. Ok (record { config = config.x; logs = logs.x; script = script })) texts
+        logs.then in
+        logs.first ∙ ap (λ (t : FileTexts). Ok t.logs)
+        (ok-is (record { config = config.x; logs = logs.x; script = script.x }) texts script.then)
 
 -- ---- logs that were checked
 

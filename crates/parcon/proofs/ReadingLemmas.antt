@@ -1,14 +1,17 @@
 -- From the answers of the reads to the bytes of the files.
 use Rattle.std.proofs.Common.{◌≡◌, ◌≤◌, ◌<◌, ◌+◌, ◌⊎◌, inl, inr, ℕ, Bool, true, false, List, [], ◌∷◌, ◌++◌, map, length, take, drop, get_or, Option, Some, None, Result, Ok, Err, refl, ap, sym, subst, ◌∙◌, append_assoc, arith, suc, ltb}
-use Rattle.std.specs.Prelude.{ok_or, unwrap_or}
+use Rattle.std.specs.Prelude.{ok_or}
 use Rattle.std.specs.List.{AllByRecursion}
 use Rattle.std.proofs.lemmas.Bool.{cases_lt, ltb-true, ltb-false}
 use Rattle.std.proofs.lemmas.List.{append-nil, map-append}
 use Rattle.pc_world.specs.World.{HasRisen, AppendsFile}
+use Rattle.std.specs.Result.{result_map_both}
+use Rattle.parcon.specs.declared.reading.Texts.{Texts}
 use Rattle.parcon.specs.declared.status.Status.{Status}
 use Rattle.parcon.specs.declared.status.Status.TheVariants.{NoMemory, Usage}
-use Rattle.parcon.specs.Command.{PlayFiles, command_of, files_of}
-use Rattle.parcon.specs.Reading.{◌>>=◌, ReadAnswer, IsAnswer, FileRead, Reads, AreLogAnswers, AreAnswers, FileText, FileTexts, IsFromFile, IsFromFiles, IsFromLog, IsFromLogs, answered, log_answered, logs_answered, within}
+use Rattle.parcon.specs.Command.{Command, PlayFiles, command_of, files_in, files_of}
+use Rattle.parcon.specs.Command.Command.{Play}
+use Rattle.parcon.specs.Reading.{◌>>=◌, ReadAnswer, IsAnswer, FileRead, Reads, AreLogAnswers, AreAnswers, FileText, FileTexts, IsConfigAnswer, IsFromConfig, IsFromFile, IsFromFiles, IsFromLog, IsFromLogs, IsFromPlay, answered, command_answered, play_answered, log_answered, logs_answered, texts_of, within}
 use Rattle.parcon.proofs.ListLemmas.{map-around, map-next}
 use Rattle.parcon.specs.Reading.ReadAnswer.{Bytes, Failed, TooLong}
 
@@ -309,109 +312,227 @@ log-unread name told f f' used s file = record {
       >>= λ c. Ok (record { name = name; bytes = c })) file.read;
 }
 
+-- ---- the read of a configuration
+
+-- no file is named
+pub no-config : (told : List ℕ → Option (List ℕ)) (f : List ℕ → ℕ)
+    → IsFromConfig None told f f (Ok [])
+no-config told f = record { answer = Bytes []; is_answer = refl; read = refl }
+
+-- this file is
+pub config-from : (name : List ℕ) (told : List ℕ → Option (List ℕ)) (f f' : List ℕ → ℕ)
+    (got : Result (List ℕ) Status) → IsFromFile name (told name) (f name) (f' name) got
+    → IsFromConfig (Some name) told f f' got
+config-from name told f f' got file =
+    record { answer = file.answer; is_answer = file.is_answer; read = file.read }
+
+abbrev some_config : Option (List ℕ) → (List ℕ → Option (List ℕ)) → ReadAnswer
+some_config None told = Bytes []
+some_config (Some name) told = some_answer (told name)
+
+some-config : (name : Option (List ℕ)) (told : List ℕ → Option (List ℕ)) (f f' : List ℕ → ℕ)
+    → IsConfigAnswer name told f f' (some_config name told)
+some-config None told f f' = refl
+some-config (Some name) told f f' = some-answer (told name) (f name) (f' name)
+
+config-later : (name : Option (List ℕ)) (told : List ℕ → Option (List ℕ)) (a b c : List ℕ → ℕ)
+    (x : ReadAnswer) → IsLater a b → IsLater b c → IsConfigAnswer name told a b x
+    → IsConfigAnswer name told a c x
+config-later None told a b c x le more is = is
+config-later (Some name) told a b c x le more is =
+    answer-later (told name) (a name) (b name) (c name) x (le name) (more name) is
+
 -- some answers may come of any files
 pub any-answers : (files : PlayFiles) (told : List ℕ → Option (List ℕ)) (f f' : List ℕ → ℕ)
     → (reads : Reads) × AreAnswers files told f f' reads
 any-answers files told f f' = (
-  record { logs = unread told files.logs; script = some_answer (told files.script) },
   record {
+    config = some_config files.config told;
+    logs = unread told files.logs;
+    script = some_answer (told files.script);
+  },
+  record {
+    config = some-config files.config told f f';
     logs = unread-answers files.logs told f f';
     script = some-answer (told files.script) (f files.script) (f' files.script);
   },
 )
 
--- ---- the logs, and then the script
+-- ---- the configuration, the logs, and then the script
 
-abbrev unwrapped : Option PlayFiles → PlayFiles
-unwrapped o = unwrap_or o (record { logs = []; script = [] })
-
--- words that are no command name no log
+-- words that are no command name no file
 pub no-command : (words : List (List ℕ)) (told : List ℕ → Option (List ℕ)) (f f' : List ℕ → ℕ)
-    → None ≡ command_of words → IsFromFiles words told f f' (Err Usage)
-no-command words told f f' none = record {
-  reads = record { logs = []; script = some_answer (told (files_of words).script) };
+    → command_of words ≡ None → IsFromFiles words told f f' (Err Usage)
+no-command words told f f' none =
+    let any = any-answers (files_of words) told f f' in
+    record {
+      reads = any.0;
+      answers = any.1;
+      texts = ap (λ (o : Option Command). ok_or o Usage
+          >>= λ command. command_answered command any.0) none;
+    }
+
+-- what the words make, as the call answers it
+pub command-ok : (o : Option Command) (files : PlayFiles)
+    → ◌≡◌ {A = Result Command Status} (Ok (Play files)) (ok_or o Usage) → o ≡ Some (Play files)
+command-ok None files is = cc
+command-ok (Some command) files is = cc
+
+pub command-err : (o : Option Command) (s : Status)
+    → ◌≡◌ {A = Result Command Status} (Err s) (ok_or o Usage) → (o ≡ None) × (s ≡ Usage)
+command-err None s is = (refl, cc)
+command-err (Some command) s is = absurd (never command s is)
+  where
+    never : (command : Command) (s : Status)
+        → ◌≡◌ {A = Result Command Status} (Err s) (Ok command) → ⊥
+    never command s is = cc
+
+each-earlier : (told told' : List ℕ → Option (List ℕ)) (a b c : List ℕ → ℕ)
+    (reads : List FileRead) → IsLater a b → ((n : List ℕ) → told' n ≡ told n)
+    → AllByRecursion (λ r. IsAnswer (told' r.name) (b r.name) (c r.name) r.answer) reads
+    → AllByRecursion (λ r. IsAnswer (told r.name) (a r.name) (c r.name) r.answer) reads
+each-earlier told told' a b c [] le keeps each = tt
+each-earlier told told' a b c (r ∷ reads) le keeps each = (
+  answer-earlier (told r.name) (a r.name) (b r.name) (c r.name) r.answer (le r.name)
+      (subst (λ (t : Option (List ℕ)). IsAnswer t (b r.name) (c r.name) r.answer) (keeps r.name)
+      each.0),
+  each-earlier told told' a b c reads le keeps each.1,
+)
+
+-- logs that were read after something else
+logs-behind : (names : List (List ℕ)) (told told' : List ℕ → Option (List ℕ))
+    (a b c : List ℕ → ℕ) (got : Result (List FileText) Status) → IsLater a b
+    → ((n : List ℕ) → told' n ≡ told n) → IsFromLogs names told' b c got
+    → IsFromLogs names told a c got
+logs-behind names told told' a b c got le keeps logs = record {
+  reads = logs.reads;
   answers = record {
-    logs = record {
-      named = ap (λ (o : Option PlayFiles). (unwrapped o).logs) none;
-      each = tt;
-    };
-    script = some-answer (told (files_of words).script) (f (files_of words).script)
-        (f' (files_of words).script);
+    named = logs.answers.named;
+    each = each-earlier told told' a b c logs.reads le keeps logs.answers.each;
   };
-  texts = ap (λ (o : Option PlayFiles). ok_or o Usage >>= λ files.
-      logs_answered 0 [] >>= λ logs.
-      answered files.script (some_answer (told (files_of words).script)) >>= λ script.
-      Ok (record { logs = logs; script = script })) (sym none);
+  texts = logs.texts;
 }
 
--- what comes of the script's read behind the logs
-abbrev behind_logs : List ℕ → ReadAnswer → Result (List FileText) Status → Result FileTexts Status
-behind_logs name script logs = logs >>= λ l. answered name script
-    >>= λ s. Ok (record { logs = l; script = s })
+-- what comes of the reads of a play's files, by what came of the first of them
+abbrev behind_config : PlayFiles → Reads → Result (List ℕ) Status → Result FileTexts Status
+behind_config files reads config = config >>= λ c. logs_answered 0 reads.logs
+    >>= λ l. answered files.script reads.script
+    >>= λ s. Ok (record { config = c; logs = l; script = s })
 
-module _ (words : List (List ℕ)) (told : List ℕ → Option (List ℕ)) (f0 f2 : List ℕ → ℕ)
-    (files : PlayFiles) (named : Some files ≡ command_of words) where
+abbrev behind_logs : PlayFiles → Reads → List ℕ → Result (List FileText) Status
+    → Result FileTexts Status
+behind_logs files reads config logs = logs >>= λ l. answered files.script reads.script
+    >>= λ s. Ok (record { config = config; logs = l; script = s })
+
+later-later : (a b c : List ℕ → ℕ) → IsLater a b → IsLater b c → IsLater a c
+later-later a b c le more n = le-trans (a n) (b n) (c n) (le n) (more n)
+
+-- the reads of the files of a play that the words make
+pub play-read : (words : List (List ℕ)) (told : List ℕ → Option (List ℕ)) (f f' : List ℕ → ℕ)
+    (files : PlayFiles) (got : Result FileTexts Status) → command_of words ≡ Some (Play files)
+    → IsFromPlay files told f f' got → IsFromFiles words told f f' got
+play-read words told f f' files got named from = record {
+  reads = from.reads;
+  answers = subst (λ (o : Option Command). AreAnswers (files_in o) told f f' from.reads) (sym named)
+      from.answers;
+  texts = ap (λ (o : Option Command). ok_or o Usage
+      >>= λ command. command_answered command from.reads) named ∙ from.texts;
+}
+
+module _ (told : List ℕ → Option (List ℕ)) (f0 f3 : List ℕ → ℕ) (files : PlayFiles) where
   -- the answers of the reads are what comes of the files
   from-answers : (reads : Reads) (got : Result FileTexts Status)
-      → AreAnswers files told f0 f2 reads
-      → behind_logs files.script reads.script (logs_answered 0 reads.logs) ≡ got
-      → IsFromFiles words told f0 f2 got
-  from-answers reads got are is = record {
-    reads = reads;
-    answers = subst (λ (o : Option PlayFiles). AreAnswers (unwrapped o) told f0 f2 reads) named are;
-    texts = ap (λ (o : Option PlayFiles). ok_or o Usage >>= λ named_files.
-        logs_answered 0 reads.logs >>= λ logs.
-        answered named_files.script reads.script >>= λ script.
-        Ok (record { logs = logs; script = script })) (sym named) ∙ is;
-  }
+      → AreAnswers files told f0 f3 reads → play_answered files reads ≡ got
+      → IsFromPlay files told f0 f3 got
+  from-answers reads got are is = record { reads = reads; answers = are; texts = is }
 
-  -- the reads of the logs ended the play
-  pub logs-unread : (f1 : List ℕ → ℕ) (s : Status) → IsLater f0 f1 → IsLater f1 f2
-      → IsFromLogs files.logs told f0 f1 (Err s) → IsFromFiles words told f0 f2 (Err s)
-  logs-unread f1 s later last logs =
-      from-answers
-      (record { logs = logs.reads; script = some_answer (told files.script) }) (Err s)
+  -- the read of the configuration ended the play
+  pub config-unread : (f1 : List ℕ → ℕ) (s : Status) → IsLater f0 f1 → IsLater f1 f3
+      → IsFromConfig files.config told f0 f1 (Err s) → IsFromPlay files told f0 f3 (Err s)
+  config-unread f1 s later last config =
+      let reads : Reads = record {
+        config = config.answer;
+        logs = unread told files.logs;
+        script = some_answer (told files.script);
+      } in
+      from-answers reads (Err s)
       (record {
-        logs = answers-later files.logs told f0 f1 f2 logs.reads later last logs.answers;
-        script = some-answer (told files.script) (f0 files.script) (f2 files.script);
+        config = config-later files.config told f0 f1 f3 config.answer later last config.is_answer;
+        logs = unread-answers files.logs told f0 f3;
+        script = some-answer (told files.script) (f0 files.script) (f3 files.script);
       })
-      (ap (behind_logs files.script (some_answer (told files.script))) logs.texts)
+      (ap (behind_config files reads) config.read)
 
-  module _ (f1 : List ℕ → ℕ) (told' : List ℕ → Option (List ℕ)) (texts : List FileText)
-      (later : IsLater f0 f1) (last : IsLater f1 f2) (keeps : (n : List ℕ) → told' n ≡ told n)
-      (logs : IsFromLogs files.logs told f0 f1 (Ok texts)) where
-    -- the script's read gave this
-    script-answered : (r : Result (List ℕ) Status) (got : Result FileTexts Status)
-        → IsFromFile files.script (told' files.script) (f1 files.script)
-        (f2 files.script) r
-        → (r >>= λ s. Ok (record { logs = texts; script = s })) ≡ got
-        → IsFromFiles words told f0 f2 got
-    script-answered r got script is =
-        from-answers (record { logs = logs.reads; script = script.answer }) got
+  module _ (f1 : List ℕ → ℕ) (told1 : List ℕ → Option (List ℕ)) (text : List ℕ)
+      (later : IsLater f0 f1) (keeps : (n : List ℕ) → told1 n ≡ told n)
+      (config : IsFromConfig files.config told f0 f1 (Ok text)) where
+    -- the reads of the logs ended the play
+    pub logs-unread : (f2 : List ℕ → ℕ) (s : Status) → IsLater f1 f2 → IsLater f2 f3
+        → IsFromLogs files.logs told1 f1 f2 (Err s) → IsFromPlay files told f0 f3 (Err s)
+    logs-unread f2 s next last from =
+        let logs = logs-behind files.logs told told1 f0 f1 f2 (Err s) later keeps from in
+        let reads : Reads = record {
+          config = config.answer;
+          logs = logs.reads;
+          script = some_answer (told files.script);
+        } in
+        from-answers reads (Err s)
         (record {
-          logs = answers-later files.logs told f0 f1 f2 logs.reads later last logs.answers;
-          script = answer-earlier (told files.script) (f0 files.script) (f1 files.script)
-              (f2 files.script) script.answer (later files.script)
-              (subst (λ (t : Option (List ℕ)).
-              IsAnswer t (f1 files.script) (f2 files.script) script.answer)
-              (keeps files.script) script.is_answer);
+          config = config-later files.config told f0 f1 f3 config.answer later
+              (later-later f1 f2 f3 next last) config.is_answer;
+          logs = answers-later files.logs told f0 f2 f3 logs.reads (later-later f0 f1 f2 later next)
+              last logs.answers;
+          script = some-answer (told files.script) (f0 files.script) (f3 files.script);
         })
-        (ap (behind_logs files.script script.answer) logs.texts
-        ∙ ap (λ (s : Result (List ℕ) Status). s
-        >>= λ t. Ok (record { logs = texts; script = t })) script.read ∙ is)
+        (ap (behind_config files reads) config.read ∙ ap (behind_logs files reads text) logs.texts)
 
-    -- the script's read ended the play
-    pub script-unread : (s : Status)
-        → IsFromFile files.script (told' files.script) (f1 files.script)
-        (f2 files.script) (Err s)
-        → IsFromFiles words told f0 f2 (Err s)
-    script-unread s script = script-answered (Err s) (Err s) script refl
+    module _ (f2 : List ℕ → ℕ) (told2 : List ℕ → Option (List ℕ)) (texts : List FileText)
+        (next : IsLater f1 f2) (last : IsLater f2 f3) (keeps2 : (n : List ℕ) → told2 n ≡ told n)
+        (from : IsFromLogs files.logs told1 f1 f2 (Ok texts)) where
+      -- the script's read gave this
+      script-answered : (r : Result (List ℕ) Status) (got : Result FileTexts Status)
+          → IsFromFile files.script (told2 files.script) (f2 files.script) (f3 files.script) r
+          → (r >>= λ s. Ok (record { config = text; logs = texts; script = s })) ≡ got
+          → IsFromPlay files told f0 f3 got
+      script-answered r got script is =
+          let logs = logs-behind files.logs told told1 f0 f1 f2 (Ok texts) later keeps from in
+          let reads : Reads = record {
+            config = config.answer;
+            logs = logs.reads;
+            script = script.answer;
+          } in
+          from-answers reads got
+          (record {
+            config = config-later files.config told f0 f1 f3 config.answer later
+                (later-later f1 f2 f3 next last) config.is_answer;
+            logs = answers-later files.logs told f0 f2 f3 logs.reads
+                (later-later f0 f1 f2 later next) last logs.answers;
+            script = answer-earlier (told files.script) (f0 files.script) (f2 files.script)
+                (f3 files.script) script.answer
+                (le-trans (f0 files.script) (f1 files.script) (f2 files.script) (later files.script)
+                (next files.script))
+                (subst (λ (t : Option (List ℕ)).
+                IsAnswer t (f2 files.script) (f3 files.script) script.answer)
+                (keeps2 files.script) script.is_answer);
+          })
+          (ap (behind_config files reads) config.read
+          ∙ ap (behind_logs files reads text) logs.texts
+          ∙ ap (λ (s : Result (List ℕ) Status). s
+          >>= λ t. Ok (record { config = text; logs = texts; script = t })) script.read ∙ is)
 
-    -- all were read
-    pub all-read : (text : List ℕ) → IsFromFile files.script (told' files.script) (f1 files.script)
-        (f2 files.script) (Ok text)
-        → IsFromFiles words told f0 f2 (Ok (record { logs = texts; script = text }))
-    all-read text script = script-answered (Ok text) _ script refl
+      -- the script's read ended the play
+      pub script-unread : (s : Status)
+          → IsFromFile files.script (told2 files.script) (f2 files.script) (f3 files.script) (Err s)
+          → IsFromPlay files told f0 f3 (Err s)
+      script-unread s script = script-answered (Err s) (Err s) script refl
+
+      -- all were read
+      pub all-read : (last_text : List ℕ)
+          → IsFromFile files.script (told2 files.script) (f2 files.script) (f3 files.script)
+          (Ok last_text)
+          → IsFromPlay files told f0 f3
+          (Ok (record { config = text; logs = texts; script = last_text }))
+      all-read last_text script = script-answered (Ok last_text) _ script refl
 
 -- ---- what the steps on the way answered
 
@@ -433,3 +554,17 @@ pub step-fault : {A C B D : Type 0} (r : Result C Status) (s : Status) → r ≡
 step-fault r s was (inl is) others =
     inl (was ∙ ap (λ (x : Status). Err x) (status-is s NoMemory is))
 step-fault r s was (inr b) others = inr (others b)
+
+-- words that make no command, as the whole answers them
+pub command-fault : {C : Type 0} (words : List (List ℕ)) (told : List ℕ → Option (List ℕ))
+    (f : List ℕ → ℕ) (r : Result Texts Status) (s : Status) → r ≡ Err s
+    → ◌≡◌ {A = Result C Status} (Err s) (Err NoMemory)
+    ⊎ ◌≡◌ {A = Result Command Status} (Err s) (ok_or (command_of words) Usage)
+    → (r ≡ Err NoMemory)
+    ⊎ IsFromFiles words told f f (result_map_both texts_of (λ s. s) r)
+command-fault words told f r s was fault =
+    step-fault r s was fault (λ none.
+    let is = command-err (command_of words) s none in
+    subst (λ (x : Result Texts Status).
+    IsFromFiles words told f f (result_map_both texts_of (λ s. s) x))
+    (sym (was ∙ ap (λ (x : Status). Err x) is.1)) (no-command words told f f is.0))

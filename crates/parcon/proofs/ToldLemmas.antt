@@ -27,15 +27,16 @@ use Rattle.pc_engine.specs.declared.fault.EngineFault.{EngineFault}
 use Rattle.pc_engine.specs.Effect.{assign_after, assign_refusal, commit_after, commit_refusal, revoke_after, revoke_refusal}
 use Rattle.parcon.specs.declared.status.Status.{Status}
 use Rattle.parcon.specs.declared.status.Status.TheVariants as status
-use Rattle.parcon.specs.Command.{PlayFiles, command_of, files_of}
-use Rattle.parcon.specs.Reading.{◌>>=◌, AreAnswers, FileRead, IsAnswer, ReadAnswer, Reads, logs_answered, answered}
+use Rattle.parcon.specs.Command.{Command, PlayFiles, command_of, files_in, files_of}
+use Rattle.parcon.specs.Command.Command.{Play as PlayOf}
+use Rattle.parcon.specs.Reading.{◌>>=◌, AreAnswers, FileRead, IsAnswer, IsConfigAnswer, command_answered, ReadAnswer, Reads}
 use Rattle.parcon.specs.Reading.ReadAnswer.{Bytes, Failed, TooLong}
 use Rattle.parcon.specs.Plan.{lines_behind, lines_to_play, logs_read}
 use Rattle.parcon.specs.Play.{Asked, Asks, Entry, Fetches, LineStep, Moment, Play, PlaysTo, Stores, Trace, Unless, after_line, after_step, call_notice, done_by, start, step_of}
 use Rattle.parcon.specs.Ending.{lines_in, output_of, wanted_status}
 use Rattle.parcon.specs.Written.{with_bytes}
 use Rattle.parcon.specs.Promise.{Ends, FilesSeen, IsCall, Outside, given_of, link_at}
-use Rattle.parcon.specs.Told.{AreTold, EndsAlike, IsFaultless, IsTold, IsToldCall, Serves, ToldPlay, answer_told, asks_link, failure_count, fetched_from, has_failed, is_accepted, store_told, store_unless, store_with, stored_by, told_answer, told_end, told_lines, told_play, told_reads}
+use Rattle.parcon.specs.Told.{AreTold, EndsAlike, IsFaultless, IsTold, IsToldCall, Serves, ToldPlay, answer_told, asks_link, failure_count, fetched_from, has_failed, is_accepted, store_told, store_unless, store_with, stored_by, told_answer, told_config, IsConfigTold, told_end, told_lines, told_play, told_reads}
 use Rattle.parcon.proofs.ReadingLemmas.{risen-earlier, risen-later}
 
 cond-true : {A : Type 0} (b : Bool) (x y : A) → b ≡ true → cond b x y ≡ x
@@ -277,12 +278,18 @@ logs-told contents f f' names reads named each told calm =
         record { name = r.name; answer = told_answer (contents r.name) } ∷ l)
         (told-names rs all.1 tells.1)
 
+config-told : (contents : List ℕ → Option (List ℕ)) (f f' : List ℕ → ℕ)
+    (name : Option (List ℕ)) (x : ReadAnswer) → IsConfigAnswer name contents f f' x
+    → IsConfigTold name contents → ((name : List ℕ) → HasRisen (f name) (f' name) → ⊥)
+    → x ≡ told_config name contents
+config-told contents f f' None x is tells calm = is
+config-told contents f f' (Some name) x is tells calm =
+    answer-told (contents name) (f name) (f' name) x tells is (calm name)
+
 -- what words say of the lines and the logs of reads
-abbrev lines_by : Option PlayFiles → Reads → Result (List PlayLine) Status
-lines_by o reads = ok_or o status.Usage
-    >>= (λ files. logs_answered 0 reads.logs
-    >>= λ logs. answered files.script reads.script
-    >>= λ script. Ok (record { logs = logs; script = script })) >>= lines_behind
+abbrev lines_by : Option Command → Reads → Result (List PlayLine) Status
+lines_by o reads = ok_or o status.Usage >>= (λ command. command_answered command reads)
+    >>= lines_behind
 
 -- the reads of the files that words name, where these are told
 record AreToldReads (words : List (List ℕ)) (contents : List ℕ → Option (List ℕ)) (reads : Reads)
@@ -297,11 +304,11 @@ reads-told : (words : List (List ℕ)) (contents : List ℕ → Option (List ℕ
 reads-told words contents f f' reads are told calm =
     by (command_of words) refl told
   where
-    by : (o : Option PlayFiles) → command_of words ≡ o → AreTold o contents
+    by : (o : Option Command) → command_of words ≡ o → AreTold o contents
         → AreToldReads words contents reads
     by None is tells =
         let no_logs : (files_of words).logs ≡ [] =
-        ap (λ (o : Option PlayFiles). (unwrap_or o (record { logs = []; script = [] })).logs) is in
+        ap (λ (o : Option Command). (files_in o).logs) is in
         let none = logs-told contents f f' [] reads.logs (are.logs.named ∙ no_logs) are.logs.each tt
         calm in
         record {
@@ -309,25 +316,30 @@ reads-told words contents f f' reads are told calm =
             name = name;
             answer = told_answer (contents name);
           })) no_logs));
-          lines = ap (λ (o : Option PlayFiles). lines_by o reads) is
-              ∙ sym (ap (λ (o : Option PlayFiles). lines_by o (told_reads words contents)) is);
+          lines = ap (λ (o : Option Command). lines_by o reads) is
+              ∙ sym (ap (λ (o : Option Command). lines_by o (told_reads words contents)) is);
         }
-    by (Some files) is tells =
-        let named : files_of words ≡ files =
-        ap (λ (o : Option PlayFiles). unwrap_or o (record { logs = []; script = [] })) is in
+    by (Some (PlayOf files)) is tells =
+        let named : files_of words ≡ files = ap files_in is in
+        let config = config-told contents f f' (files_of words).config reads.config are.config
+        (subst (λ (x : PlayFiles). IsConfigTold x.config contents) (sym named) tells.0) calm in
         let all : AllByRecursion (λ name. IsTold (contents name)) (files_of words).logs =
         subst (λ (x : PlayFiles). AllByRecursion (λ name. IsTold (contents name)) x.logs)
-        (sym named) tells.0 in
+        (sym named) tells.1 in
         let last : IsTold (contents (files_of words).script) =
-        subst (λ (x : PlayFiles). IsTold (contents x.script)) (sym named) tells.1 in
+        subst (λ (x : PlayFiles). IsTold (contents x.script)) (sym named) tells.2 in
         let logs = logs-told contents f f' (files_of words).logs reads.logs are.logs.named
         are.logs.each all calm in
         let script = answer-told (contents (files_of words).script) (f (files_of words).script)
         (f' (files_of words).script) reads.script last are.script (calm (files_of words).script) in
-        let same : reads ≡ told_reads words contents =
-        ap (λ (l : List FileRead). record { logs = l; script = reads.script }) logs
-        ∙ ap (λ (x : ReadAnswer). record { logs = (told_reads words contents).logs; script = x })
-        script in
+        let told_all : Reads = told_reads words contents in
+        let same : reads ≡ told_all =
+        ap (λ (x : ReadAnswer). record { config = x; logs = reads.logs; script = reads.script })
+        config
+        ∙ ap (λ (l : List FileRead).
+        record { config = told_all.config; logs = l; script = reads.script }) logs
+        ∙ ap (λ (x : ReadAnswer).
+        record { config = told_all.config; logs = told_all.logs; script = x }) script in
         record {
           logs = ap (λ (r : Reads). logs_read r.logs) same;
           lines = ap (lines_to_play words) same;

@@ -1,4 +1,5 @@
 pub mod Command
+pub mod Words
 pub mod Reading
 pub mod Plan
 pub mod Hand

@@ -111,13 +111,22 @@ lines_of_script script =
       lines ← lines_or_status (script_of script)
       built_lines lines (first_unbuilt lines)
 
--- ---- both
+-- ---- the configuration
 
--- the lines that are played over these logs, or the status that ends a play before it: of the logs
--- in order, of the number of their records, of the script, the first that applies
+-- so far nothing is played with a configuration that says anything
+abbrev pub built_config : List ℕ → Result (Unit {0}) Status
+built_config [] = Ok tt
+built_config (b ∷ text) = Err (status.NotBuilt 0)
+
+-- ---- all of them
+
+-- the lines that are played over these logs, or the status that ends a play before it: of the
+-- configuration, of the logs in order, of the number of their records, of the script, the first that
+-- applies
 abbrev pub lines_behind : FileTexts → Result (List PlayLine) Status
 lines_behind texts =
     do
+      config ← built_config texts.config
       logs ← checked_logs texts.logs
       few ← few_records (logs_with logs)
       lines_of_script texts.script

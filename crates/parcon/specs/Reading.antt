@@ -1,14 +1,17 @@
 -- What the reads of a play's files answered, and the bytes that they gave.
-use Rattle.std.specs.Prelude.{ℕ, ◌≡◌, ◌≤◌, ◌<◌, ◌+◌, nat_lt, List, [], ◌∷◌, length, map, ok_or, Option, Some, Result, Ok, Err, if◌then◌else◌}
+use Rattle.std.specs.Prelude.{ℕ, ◌≡◌, ◌≤◌, ◌<◌, ◌+◌, nat_lt, List, [], ◌∷◌, length, map, ok_or, unwrap_or, Option, Some, None, Result, Ok, Err, if◌then◌else◌}
 use Rattle.std.specs.List.{AllByRecursion}
 use Rattle.pc_model.specs.declared.limits.TheConstants.{MAX_FILE_BYTES, MAX_LOG_BYTES}
+use Rattle.std.specs.Option.{option_map_or}
+use Rattle.std.specs.declared.vec.Vec.{Vec}
 use Rattle.pc_world.specs.World.{HasRisen}
 use Rattle.parcon.specs.declared.reading.LogText.{LogText}
 use Rattle.parcon.specs.declared.reading.Texts.{Texts}
 use Rattle.parcon.specs.declared.status.Status.{Status}
 use Rattle.parcon.specs.declared.status.Status.TheVariants as status
 use Rattle.parcon.specs.declared.status.LimitKind.TheVariants.{FileBytes, LogBytes}
-use Rattle.parcon.specs.Command.{PlayFiles, command_of, files_of}
+use Rattle.parcon.specs.Command.{Command, PlayFiles, command_of, files_of}
+use Rattle.parcon.specs.Command.Command.{Play}
 
 -- ---- what the reads answered
 
@@ -33,11 +36,20 @@ pub record FileRead : Type 0 where
   pub name : List ℕ
   pub answer : ReadAnswer
 
--- what the reads of a play's files answered: those of the logs, in the order of the parts, and that
--- of the script. A read that was not made has an answer, too, which it could have had
+-- what the reads of a play's files answered: that of the configuration, those of the logs, in the
+-- order of the parts, and that of the script. A read that was not made has an answer, too, which it
+-- could have had
 pub record Reads : Type 0 where
+  pub config : ReadAnswer
   pub logs : List FileRead
   pub script : ReadAnswer
+
+-- the answer that may come of the read of a configuration: where no file is named, no bytes
+abbrev pub IsConfigAnswer : Option (List ℕ) → (List ℕ → Option (List ℕ)) → (List ℕ → ℕ)
+    → (List ℕ → ℕ) → ReadAnswer → Type 0
+IsConfigAnswer None told before after answer = answer ≡ Bytes []
+IsConfigAnswer (Some name) told before after answer =
+    IsAnswer (told name) (before name) (after name) answer
 
 -- the answers that may come of the reads of logs with these names
 pub record AreLogAnswers (names : List (List ℕ)) (told : List ℕ → Option (List ℕ))
@@ -49,6 +61,7 @@ pub record AreLogAnswers (names : List (List ℕ)) (told : List ℕ → Option (
 -- the answers that may come of the reads of a play's files
 pub record AreAnswers (files : PlayFiles) (told : List ℕ → Option (List ℕ))
     (before after : List ℕ → ℕ) (reads : Reads) : Type 0 where
+  pub config : IsConfigAnswer files.config told before after reads.config
   pub logs : AreLogAnswers files.logs told before after reads.logs
   pub script : IsAnswer (told files.script) (before files.script) (after files.script) reads.script
 
@@ -59,16 +72,24 @@ pub record FileText : Type 0 where
   pub name : List ℕ
   pub bytes : List ℕ
 
--- the bytes of a play's files
+-- the bytes of a play's files, where a configuration without a file is the empty text
 pub record FileTexts : Type 0 where
+  pub config : List ℕ
   pub logs : List FileText
   pub script : List ℕ
 
 abbrev pub text_of : LogText → FileText
 text_of text = record { name = text.name.now; bytes = text.bytes.items }
 
+abbrev pub config_text : {A : Type 0} → Option (Vec ℕ A) → List ℕ
+config_text config = option_map_or (λ bytes. bytes.items) config []
+
 abbrev pub texts_of : Texts → FileTexts
-texts_of texts = record { logs = map text_of texts.logs.items; script = texts.script.items }
+texts_of texts = record {
+  config = config_text texts.config;
+  logs = map text_of texts.logs.items;
+  script = texts.script.items;
+}
 
 infixl 10 ◌>>=◌
 abbrev pub ◌>>=◌ : {X Y : Type 0} → Result X Status → (X → Result Y Status) → Result Y Status
@@ -103,15 +124,30 @@ logs_answered before (read ∷ reads) =
       texts ← logs_answered (before + length text.bytes) reads
       Ok (text ∷ texts)
 
+-- the bytes of the configuration, of which there are none where no file is named
+abbrev pub config_answered : Option (List ℕ) → ReadAnswer → Result (List ℕ) Status
+config_answered name answer = answered (unwrap_or name []) answer
+
+-- the bytes of a play's files, or the status of the first read that has one
+abbrev pub play_answered : PlayFiles → Reads → Result FileTexts Status
+play_answered files reads =
+    do
+      config ← config_answered files.config reads.config
+      logs ← logs_answered 0 reads.logs
+      script ← answered files.script reads.script
+      Ok (record { config = config; logs = logs; script = script })
+
+abbrev pub command_answered : Command → Reads → Result FileTexts Status
+command_answered (Play files) reads = play_answered files reads
+
 -- the bytes of the files that the words name, or the status that ends a play before all are read:
--- of the words, of the reads of the logs, of the read of the script, the first that applies
+-- of the words, of the reads of the configuration, of the logs and of the script, the first that
+-- applies
 abbrev pub files_answered : List (List ℕ) → Reads → Result FileTexts Status
 files_answered words reads =
     do
-      files ← ok_or (command_of words) status.Usage
-      logs ← logs_answered 0 reads.logs
-      script ← answered files.script reads.script
-      Ok (record { logs = logs; script = script })
+      command ← ok_or (command_of words) status.Usage
+      command_answered command reads
 
 -- ---- what comes of a file, unless memory was wanting
 
@@ -121,6 +157,13 @@ pub record IsFromFile (name : List ℕ) (told : Option (List ℕ)) (before after
   pub answer : ReadAnswer
   pub is_answer : IsAnswer told before after answer
   pub read : answered name answer ≡ got
+
+-- the same of the read of a configuration
+pub record IsFromConfig (name : Option (List ℕ)) (told : List ℕ → Option (List ℕ))
+    (before after : List ℕ → ℕ) (got : Result (List ℕ) Status) : Type 0 where
+  pub answer : ReadAnswer
+  pub is_answer : IsConfigAnswer name told before after answer
+  pub read : config_answered name answer ≡ got
 
 -- the same of the read of a log behind others that have so many bytes
 pub record IsFromLog (name : List ℕ) (told : Option (List ℕ)) (before after used : ℕ)
@@ -135,6 +178,13 @@ pub record IsFromLogs (names : List (List ℕ)) (told : List ℕ → Option (Lis
   pub reads : List FileRead
   pub answers : AreLogAnswers names told before after reads
   pub texts : logs_answered 0 reads ≡ got
+
+-- the same of the reads of a play's files
+pub record IsFromPlay (files : PlayFiles) (told : List ℕ → Option (List ℕ))
+    (before after : List ℕ → ℕ) (got : Result FileTexts Status) : Type 0 where
+  pub reads : Reads
+  pub answers : AreAnswers files told before after reads
+  pub texts : play_answered files reads ≡ got
 
 -- the same of the reads of all files that the words name
 pub record IsFromFiles (words : List (List ℕ)) (told : List ℕ → Option (List ℕ))

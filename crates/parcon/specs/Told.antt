@@ -19,7 +19,8 @@ use Rattle.pc_script.specs.declared.play.PlayAct.{PlayAct}
 use Rattle.pc_script.specs.declared.play.PlayAct.TheVariants.{Assign, Commit, Revoke}
 use Rattle.pc_script.specs.declared.play.PlayLine.{PlayLine}
 use Rattle.parcon.specs.declared.status.Status.{Status}
-use Rattle.parcon.specs.Command.{PlayFiles, files_of}
+use Rattle.parcon.specs.Command.{Command, files_of}
+use Rattle.parcon.specs.Command.Command.{Play as PlayOf}
 use Rattle.parcon.specs.Reading.{ReadAnswer, Reads}
 use Rattle.parcon.specs.Reading.ReadAnswer.{Bytes, TooLong}
 use Rattle.parcon.specs.Plan.{lines_to_play, logs_read}
@@ -37,8 +38,13 @@ told_answer (Some contents) =
     if nat_lt MAX_FILE_BYTES (length contents) then TooLong else Bytes contents
 
 -- what the reads of the files answer that the words name
+abbrev pub told_config : Option (List ℕ) → (List ℕ → Option (List ℕ)) → ReadAnswer
+told_config None contents = Bytes []
+told_config (Some name) contents = told_answer (contents name)
+
 abbrev pub told_reads : List (List ℕ) → (List ℕ → Option (List ℕ)) → Reads
 told_reads words contents = record {
+  config = told_config (files_of words).config contents;
   logs = map (λ name. record { name = name; answer = told_answer (contents name) })
       (files_of words).logs;
   script = told_answer (contents (files_of words).script);
@@ -48,11 +54,16 @@ told_reads words contents = record {
 abbrev pub IsTold : Option (List ℕ) → Type 0
 IsTold told = is_none told ≡ false
 
--- so do those of a play
-abbrev pub AreTold : Option PlayFiles → (List ℕ → Option (List ℕ)) → Type 0
+-- so does that of a configuration, if one is named
+abbrev pub IsConfigTold : Option (List ℕ) → (List ℕ → Option (List ℕ)) → Type 0
+IsConfigTold None contents = Unit {0}
+IsConfigTold (Some name) contents = IsTold (contents name)
+
+-- the files of a command tell what they hold
+abbrev pub AreTold : Option Command → (List ℕ → Option (List ℕ)) → Type 0
 AreTold None contents = Unit {0}
-AreTold (Some files) contents =
-    AllByRecursion (λ name. IsTold (contents name)) files.logs × IsTold (contents files.script)
+AreTold (Some (PlayOf files)) contents = IsConfigTold files.config contents
+    × AllByRecursion (λ name. IsTold (contents name)) files.logs × IsTold (contents files.script)
 
 -- ---- the link
 

@@ -1,73 +1,142 @@
 //! The command that words make.
 
-ghost use Rattle.std.specs.Prelude.{◌≡◌, ◌<◌, ◌≤◌, ◌-◌, IfSome, length, map, option_map, string_bytes};
+ghost use Rattle.std.specs.Prelude.{◌≡◌, ◌⊎◌, ◌≤◌, ◌<◌, ◌-◌, Err, IfOk, Some, length, map, ok_or, string_bytes, option_and_then, false};
+ghost use Rattle.std.specs.Option.{option_map_or};
 ghost use Rattle.std.specs.List.{list_all};
-ghost use Rattle.parcon.specs.Command.{command_of, is_file, is_play, play_files};
+ghost use Rattle.std.specs.Result.{result_map_both};
+ghost use Rattle.parcon.specs.Command.{are_files, are_play_files, command_of, is_config_name, is_hyphened, is_name, is_play_count, play_files, play_of, said_by};
+ghost use Rattle.parcon.specs.Command.Command.{Play};
+ghost use Rattle.parcon.specs.Words.{HasFewLogs, plain_command, plain_play, plain_said};
+ghost use Rattle.parcon.specs.declared.status.Status.TheVariants.{NoMemory, Usage};
 
+use crate::status::Status;
+use crate::words::{Said, said_by};
 use pc_model::limits::MAX_PARTS;
+use std::alloc::Global;
 
 /// The most files that a play may name: 1,024 logs and a script.
 const MAX_FILES: usize = MAX_PARTS as usize + 1;
 
+/// What words ask for.
+#[derive(Debug, Drop)]
+pub(crate) enum Command<'a> {
+    /// To play a script over logs.
+    Play(PlayFiles<'a>),
+}
+
 /// The names of a play's files.
-#[derive(Clone, Copy, Debug)]
+#[derive(Debug, Drop)]
 pub(crate) struct PlayFiles<'a> {
+    pub(crate) config: Option<&'a str>,
     /// The log at place k is that of part k.
-    pub(crate) logs: &'a [String],
+    pub(crate) logs: Vec<&'a str>,
     pub(crate) script: &'a str,
 }
 
-/// The files that the words name, where they are `play`, 1 to 1,024 logs and a script.
-pub(crate) fn command<'a>(words: &'a [String]) -> Option<PlayFiles<'a>>
-    ensures value { option_map (λ files. record {
-      logs = map string_bytes files.logs.now;
-      script = files.script.now;
-    }) result ≡ command_of (map string_bytes words.now) }
-    ensures few { IfSome result (λ files. length files.logs.now ≤ MAX_PARTS) }
+/// The command that the words make: `play [--config FILE] LOG... SCRIPT`, with 1 to 1,024 logs.
+/// `Usage` if they make none; the other error is `NoMemory`.
+pub(crate) fn command_of<'a>(alloc: Global, words: &'a [String]) -> Result<Command<'a>, Status>
+    ensures command { (result ≡ Err NoMemory) ⊎ (result_map_both plain_command (λ s. s) result
+        ≡ ok_or (command_of (map string_bytes words.now)) Usage) }
+    ensures few { IfOk result HasFewLogs }
 {
-    let (command, names) = words.split_first()?;
-    if is_play(command.as_str(), names) {
-        Some(play_files(names))
+    match words.split_first() {
+        Some((name, words)) if name.as_str() == "play" => play(alloc, words),
+        _ => Err(Status::Usage),
+    }
+}
+
+/// The play that the words behind `play` ask for.
+fn play<'a>(alloc: Global, words: &'a [String]) -> Result<Command<'a>, Status>
+    ensures command { (result ≡ Err NoMemory) ⊎ (result_map_both plain_command (λ s. s) result
+        ≡ ok_or (option_and_then play_of (said_by false (map string_bytes words.now))) Usage) }
+    ensures few { IfOk result HasFewLogs }
+{
+    let said = said_by(alloc, words)?;
+    play_of(said)
+}
+
+/// The files of a command.
+pub(crate) fn files_of(command: Command<'_>) -> PlayFiles<'_>
+    ensures files { plain_command command.entry ≡ Play (plain_play result) }
+    ensures few { HasFewLogs command.entry → length result.logs.items ≤ MAX_PARTS }
+{
+    match command {
+        Command::Play(files) => files,
+    }
+}
+
+/// The play that words ask for which say this.
+fn play_of(said: Said<'_>) -> Result<Command<'_>, Status>
+    ensures command { result_map_both plain_command (λ s. s) result
+        ≡ ok_or (play_of (plain_said said.entry)) Usage }
+    ensures few { IfOk result HasFewLogs }
+{
+    if are_play_files(&said) {
+        Ok(Command::Play(play_files(said)))
     } else {
-        None
+        Err(Status::Usage)
     }
 }
 
-/// Whether these are the words of a play.
-fn is_play(command: &str, names: &[String]) -> bool
-    ensures { result ≡ is_play command.now (map string_bytes names.now) }
+/// Whether these are the files of a play.
+fn are_play_files(said: &Said<'_>) -> bool
+    ensures { result ≡ are_play_files (plain_said said.now) }
 {
-    command == "play" && 2 <= names.len() && names.len() <= MAX_FILES && are_files(names)
+    are_files(said.files.as_slice()) && said.config.is_none_or(is_config_name)
 }
 
-/// Whether each of the words may name a file.
-fn are_files(words: &[String]) -> bool
-    ensures { result ≡ list_all (λ word. is_file (string_bytes word)) words.now }
+/// Whether these may be the files of a play, the last of them its script.
+fn are_files(words: &[&str]) -> bool
+    ensures { result ≡ are_files (map (λ s. s.now) words.now) }
 {
-    words.iter().all(|word| is_file(word.as_str()))
+    is_play_count(words.len()) && are_names(words)
 }
 
-/// The files of these names, of which the last is the script's.
-fn play_files<'a>(names: &'a [String]) -> PlayFiles<'a>
-    requires { 0 < length names.now }
-    ensures logs { map string_bytes result.logs.now
-        ≡ (play_files (map string_bytes names.now)).logs }
-    ensures count { length result.logs.now ≡ length names.now - 1 }
-    ensures script { result.script.now ≡ (play_files (map string_bytes names.now)).script }
+/// Whether there are as many files as a play has: 1 to 1,024 logs and a script.
+fn is_play_count(count: usize) -> bool
+    ensures { result ≡ is_play_count count }
 {
-    let logs = names.len() - 1;
-    PlayFiles {
-        logs: &names[..logs],
-        script: names[logs].as_str(),
-    }
+    (2..=MAX_FILES).contains(&count)
 }
 
-/// Whether a word may name a file.
-fn is_file(word: &str) -> bool
-    ensures { result ≡ is_file word.now }
+/// Whether each word may name a file.
+fn are_names(words: &[&str]) -> bool
+    ensures { result ≡ list_all (λ word. is_name word.now) words.now }
 {
-    match word.as_bytes().first() {
-        Some(first) => *first != b'-',
-        None => false,
+    words.iter().all(|word| !word.is_empty())
+}
+
+/// Whether a word may name the file of a configuration.
+fn is_config_name(name: &str) -> bool
+    ensures { result ≡ is_config_name name.now }
+{
+    !name.is_empty() && !is_hyphened(name)
+}
+
+/// Whether a word begins with a hyphen and is more than that hyphen.
+fn is_hyphened(word: &str) -> bool
+    ensures { result ≡ is_hyphened word.now }
+{
+    matches!(word.as_bytes(), [b'-', _, ..])
+}
+
+/// The names of a play's files; the last file is the script.
+fn play_files(said: Said<'_>) -> PlayFiles<'_>
+    requires { 0 < length said.files.items }
+    ensures names { plain_play result ≡ play_files (plain_said said.entry) }
+    ensures count { length result.logs.items ≡ length said.entry.files.items - 1 }
+{
+    let Said {
+        config,
+        files: mut logs,
+    } = said;
+    match logs.pop() {
+        Some(script) => PlayFiles {
+            config,
+            logs,
+            script,
+        },
+        None => unreachable!(),
     }
 }

@@ -17,6 +17,7 @@ mod play_setup;
 mod reading;
 mod remark;
 mod status;
+mod words;
 
 use offline::offline;
 use pc_model::limits::MAX_PARTS;
@@ -44,7 +45,7 @@ fn main(rt: HostRuntime) -> ExitCode {
 /// Runs the program on the words behind its name, over the disk and the standard output, with a
 /// link in memory, and answers the number of its status.
 fn run(rt: &HostRuntime) -> Result<u8, AllocError> {
-    let words = words(rt)?;
+    let words = arguments(rt)?;
     let link = OffsetBroker::new(rt.alloc(), TOPIC, MAX_PARTS)?;
     let mut files = DiskFiles::new(rt.alloc(), rt);
     let mut out = StdSink::new(rt);
@@ -53,7 +54,7 @@ fn run(rt: &HostRuntime) -> Result<u8, AllocError> {
 }
 
 /// The words behind the program's name, or none, which are no command, where one is no UTF-8.
-fn words(rt: &HostRuntime) -> Result<Vec<String>, AllocError> {
+fn arguments(rt: &HostRuntime) -> Result<Vec<String>, AllocError> {
     match env::args(rt) {
         Ok(words) => words.skip(1).collect(rt.alloc()),
         Err(e) if e.kind() == ErrorKind::OutOfMemory => Err(AllocError),

@@ -3,8 +3,8 @@
 ghost use Rattle.std.specs.Prelude.{◌≡◌, ◌≤◌, ◌⊎◌, ◌<◌, Err, IfErr, IfOk, OnOk, length, map};
 ghost use Rattle.std.specs.Result.{result_map_both};
 ghost use Rattle.pc_cursor.specs.Log.{all_batches, contents_of, records_of};
-ghost use Rattle.parcon.specs.Reading.{text_of, texts_of};
-ghost use Rattle.parcon.specs.Plan.{AddsLog, IsOverfull, built_lines, checked_logs, few_records, first_unbuilt, is_built, lines_behind, lines_of_script, log_or_status, logs_of, logs_with};
+ghost use Rattle.parcon.specs.Reading.{config_text, text_of, texts_of};
+ghost use Rattle.parcon.specs.Plan.{AddsLog, IsOverfull, built_config, built_lines, checked_logs, few_records, first_unbuilt, is_built, lines_behind, lines_of_script, log_or_status, logs_of, logs_with};
 ghost use Rattle.parcon.specs.Promise.{default_setup};
 ghost use Rattle.parcon.specs.declared.status.Status.TheVariants.{NoMemory};
 
@@ -26,8 +26,8 @@ pub(crate) struct Plan<'a> {
 }
 
 /// What the texts of a play's files ask for, with the setup that holds where nothing else is said,
-/// or the status that ends the play before it begins: of the logs in order, of the number of their
-/// records, of the script, the first that applies.
+/// or the status that ends the play before it begins: of the configuration, of the logs in order, of
+/// the number of their records, of the script, the first that applies.
 pub(crate) fn plan_of<'a>(alloc: Global, texts: &'a Texts<'_>) -> Result<Plan<'a>, Status>
     requires { length texts.now.logs.items ≤ MAX_PARTS }
     ensures lines { (result ≡ Err NoMemory)
@@ -36,6 +36,7 @@ pub(crate) fn plan_of<'a>(alloc: Global, texts: &'a Texts<'_>) -> Result<Plan<'a
     ensures logs { IfOk result (λ plan. plan.logs ≡ logs_of (map text_of texts.now.logs.items)) }
     ensures setup { IfOk result (λ plan. plan.setup ≡ default_setup) }
 {
+    built_config(&texts.config)?;
     let checked = checked_logs(alloc, texts.logs.as_slice())?;
     let logs = broker_logs(alloc, checked)?;
     let script = built_script(alloc, texts.script.as_slice())?;
@@ -45,6 +46,16 @@ pub(crate) fn plan_of<'a>(alloc: Global, texts: &'a Texts<'_>) -> Result<Plan<'a
         logs,
         script,
     })
+}
+
+/// Refuses a configuration that says anything: so far nothing is played with one.
+fn built_config(config: &Option<Vec<u8>>) -> Result<(), Status>
+    ensures { result ≡ built_config (config_text config.now) }
+{
+    match config {
+        Some(text) if !text.is_empty() => Err(Status::NotBuilt { line: 0 }),
+        _ => Ok(()),
+    }
 }
 
 /// The logs of the texts, which have to read.

@@ -1,11 +1,12 @@
 //! The bytes of a play's files, or the status that ends the play before all of them are read.
 
-ghost use Rattle.std.specs.Prelude.{◌≡◌, ◌≤◌, ◌⊎◌, ◌+◌, List, ℕ, Err, IfOk, length, map, string_bytes};
+ghost use Rattle.std.specs.Prelude.{◌≡◌, ◌≤◌, ◌⊎◌, ◌+◌, List, ℕ, Err, IfOk, length, map, option_map, string_bytes};
 ghost use Rattle.std.specs.Result.{result_map_both};
-ghost use Rattle.parcon.specs.Reading.{IsFromFile, IsFromFiles, IsFromLog, IsFromLogs, text_of, texts_of, within};
+ghost use Rattle.parcon.specs.Reading.{IsFromConfig, IsFromFile, IsFromFiles, IsFromLog, IsFromLogs, IsFromPlay, config_text, text_of, texts_of, within};
+ghost use Rattle.parcon.specs.Words.{plain_play};
 ghost use Rattle.parcon.specs.declared.status.Status.TheVariants.{NoMemory};
 
-use crate::command::command;
+use crate::command::{PlayFiles, command_of, files_of};
 use crate::status::{LimitKind, Status};
 use pc_model::NameText;
 use pc_model::limits::{MAX_FILE_BYTES, MAX_LOG_BYTES, MAX_PARTS};
@@ -22,13 +23,16 @@ pub(crate) struct LogText<'a> {
 /// The bytes of a play's files.
 #[derive(Debug, Drop)]
 pub(crate) struct Texts<'a> {
+    /// Nothing where no file of a configuration is named.
+    pub(crate) config: Option<Vec<u8>>,
     /// The log at place k is that of part k.
     pub(crate) logs: Vec<LogText<'a>>,
     pub(crate) script: Vec<u8>,
 }
 
 /// The bytes of the files that the words name, or the status that ends the play before all are
-/// read: of the words, of the reads of the logs, of that of the script, the first that applies.
+/// read: of the words, of the reads of the configuration, of the logs and of the script, the first
+/// that applies.
 pub(crate) fn read_files<'a, F: Files>(
     alloc: Global,
     words: &'a [String],
@@ -39,21 +43,55 @@ pub(crate) fn read_files<'a, F: Files>(
         (result_map_both texts_of (λ s. s) result) }
     ensures few { IfOk result (λ texts. length texts.logs.items ≤ MAX_PARTS) }
 {
-    let Some(names) = command(words) else {
-        return Err(Status::Usage);
-    };
-    let logs = read_logs(alloc, names.logs, files)?;
+    let names = files_of(command_of(alloc, words)?);
+    read_play(alloc, &names, files)
+}
+
+/// The bytes of a play's files.
+fn read_play<'a, F: Files>(
+    alloc: Global,
+    names: &PlayFiles<'a>,
+    files: &mut F,
+) -> Result<Texts<'a>, Status>
+    ensures texts { (result ≡ Err NoMemory) ⊎ IsFromPlay (plain_play names.now) (F.told files.old)
+        (F.faults files.old) (F.faults files.new) (result_map_both texts_of (λ s. s) result) }
+    ensures many { IfOk result (λ texts. length texts.logs.items ≡ length names.now.logs.items) }
+{
+    let config = read_config(alloc, files, names.config)?;
+    let logs = read_logs(alloc, names.logs.as_slice(), files)?;
     let script = read(alloc, files, names.script)?;
-    Ok(Texts { logs, script })
+    Ok(Texts {
+        config,
+        logs,
+        script,
+    })
+}
+
+/// The bytes of the configuration, if a file is named.
+fn read_config<F: Files>(
+    alloc: Global,
+    files: &mut F,
+    name: Option<&str>,
+) -> Result<Option<Vec<u8>>, Status>
+    ensures text { (result ≡ Err NoMemory) ⊎ IsFromConfig (option_map (λ n. n.now) name.entry)
+        (F.told files.old) (F.faults files.old) (F.faults files.new)
+        (result_map_both config_text (λ s. s) result) }
+    ensures keeps { (n : List ℕ) → F.told files.new n ≡ F.told files.old n }
+    ensures count { (n : List ℕ) → F.faults files.old n ≤ F.faults files.new n }
+{
+    match name {
+        Some(name) => Ok(Some(read(alloc, files, name)?)),
+        None => Ok(None),
+    }
 }
 
 /// The bytes of the logs.
 fn read_logs<'a, F: Files>(
     alloc: Global,
-    names: &'a [String],
+    names: &[&'a str],
     files: &mut F,
 ) -> Result<Vec<LogText<'a>>, Status>
-    ensures texts { (result ≡ Err NoMemory) ⊎ IsFromLogs (map string_bytes names.now)
+    ensures texts { (result ≡ Err NoMemory) ⊎ IsFromLogs (map (λ n. n.now) names.now)
         (F.told files.old) (F.faults files.old) (F.faults files.new)
         (result_map_both (λ logs. map text_of logs.items) (λ s. s) result) }
     ensures many { IfOk result (λ logs. length logs.items ≡ length names.now) }
@@ -63,7 +101,7 @@ fn read_logs<'a, F: Files>(
     let mut logs = Vec::new(alloc);
     let mut used = 0;
     for name in names {
-        let log = read_log(alloc, files, name.as_str(), used)?;
+        let log = read_log(alloc, files, name, used)?;
         used += log.bytes.len() as u64;
         logs.push(log)?;
     }

@@ -1,13 +1,12 @@
 -- The logs so far are read.
 use Rattle.std.proofs.Common.{◌≡◌, ◌≤◌, List, ℕ, map, take, length}
-use Rattle.std.specs.Prelude.{string_bytes}
 use Rattle.parcon.specs.Reading.{text_of}
 use Rattle.parcon.proofs.ReadingLemmas.{AreRead, IsLater}
 use Rattle.parcon.proofs.reading.read_logs.Given as goal
 
 abbrev pub invariant-loop-name : goal.invariant-loop-name
 invariant-loop-name g l = record {
-  read : AreRead (map string_bytes (take l.name-index l.names)) (g.F.Files.told l.fn.files)
+  read : AreRead (map (λ n. n.now) (take l.name-index l.names)) (g.F.Files.told l.fn.files)
       (g.F.Files.faults l.fn.files) (g.F.Files.faults l.files) (map text_of l.logs.items) l.used;
   fits : l.used ≤ 268_435_456;
   many : length l.logs.items ≡ l.name-index;
