@@ -10,7 +10,7 @@ use Rattle.pc_model.specs.Epochs.{epoch_of, is_held}
 use Rattle.pc_model.specs.Known.{commit_of}
 use Rattle.pc_model.specs.Jobs.{has_ended}
 use Rattle.pc_script.specs.declared.play.PlayAct.{PlayAct}
-use Rattle.pc_script.specs.declared.play.PlayAct.TheVariants.{Assign, Commit, Poll, Take, End, Revoke, Lose, Crash}
+use Rattle.pc_script.specs.declared.play.PlayAct.TheVariants.{Assign, Commit, Poll, Take, End, Tick, Revoke, Lose, Crash}
 use Rattle.pc_offset_client.specs.declared.fault.ClientFault.{ClientFault}
 use Rattle.pc_offset_client.specs.declared.fault.ClientFault.TheVariants as client
 use Rattle.pc_task.specs.Jobs.{PlainJob, due_outcome, finished_job}
@@ -22,13 +22,14 @@ use Rattle.pc_engine.specs.declared.settled.Settled.{Settled}
 use Rattle.pc_engine.specs.declared.settled.Settled.TheVariants as settled
 use Rattle.pc_model.specs.declared.outcome.Outcome.{Outcome}
 use Rattle.pc_model.specs.declared.outcome.Outcome.TheVariants.{Good, Bad}
-use Rattle.pc_engine.specs.Effect.{Step, Does, IsExpected, IsFetched, IsStored, KeepsStore, Settles, assign_after, assign_refusal, assign_step, commit_after, commit_refusal, commit_step, crash_step, lose_step, poll_step, revoke_after, revoke_refusal, revoke_step, settle_current, settle_step, take_step}
+use Rattle.pc_state.specs.Calls.{IsExpected}
+use Rattle.pc_engine.specs.Effect.{Step, Does, IsFetched, IsStored, KeepsStore, Settles, assign_after, assign_refusal, assign_step, commit_after, commit_refusal, commit_step, crash_step, lose_step, poll_step, revoke_after, revoke_refusal, revoke_step, settle_current, settle_step, take_step, tick_step}
 use Rattle.parcon.specs.declared.hand.Hand.{Hand}
 use Rattle.parcon.specs.declared.remark.Notice.{Notice}
 use Rattle.parcon.specs.declared.remark.Notice.TheVariants.{Refused, Stranger}
 use Rattle.parcon.specs.Hand.{AreIn, HasInHand, job_with, without}
-use Rattle.parcon.specs.Play.{Asked, Breaks, Calls, Fetches, IsAborted, Makes, Moment, Stores, Unless, call_notice, done_by, end_job, end_step, hand_after, poll_notice, settled_notice, take_notice}
-use Rattle.parcon.proofs.HandLemmas.{Expects, assign-expects, commit-expects, crash-expects, end-expects, job_with-but, job_with-is, lose-expects, poll-expects, revoke-expects, take-expects}
+use Rattle.parcon.specs.Play.{Asked, Breaks, Calls, Fetches, IsAborted, Makes, Moment, Stores, Unless, call_notice, done_by, end_job, end_step, hand_after, poll_notice, settled_notice, take_notice, tick_notice}
+use Rattle.parcon.proofs.HandLemmas.{Expects, assign-expects, commit-expects, crash-expects, end-expects, job_with-but, job_with-is, lose-expects, poll-expects, revoke-expects, take-expects, tick-expects}
 
 -- ---- the parts of what is in hand
 
@@ -246,6 +247,18 @@ module _ (given : Given) (h h' : List Event) (told : Bool) (m m' : Moment) where
                 (crash-expects given h jobs (expects-of given h jobs hand has));
           }
 
+      pub ticked : (n : ℕ) (r : Result Bool EngineFault) (notice : Option Notice)
+          → (r ≡ Err NoMemory → ⊥) → notice ≡ tick_notice r → Does r (tick_step h n) h h'
+          → Makes told given h jobs (Tick n) m m' h' hand notice
+      ticked n r notice other is does =
+          let done = does-is r (tick_step h n) h h' other does in
+          record {
+            comes = record { asked = Err client.NoMemory; asks = same; events = done.1 };
+            notice_is = is ∙ ap (λ (x : Result Bool EngineFault). tick_notice x) done.0;
+            in_hand = has-after given _ h' jobs hand done.1 has.each
+                (tick-expects given h jobs (expects-of given h jobs hand has) n);
+          }
+
       pub polled : (p max : ℕ) (r : Result ℕ EngineFault) (notice : Option Notice)
           → (r ≡ Err NoMemory → ⊥) → notice ≡ poll_notice r
           → Does r (poll_step given h p max) h h'
@@ -415,26 +428,29 @@ pub none-made : (told : Bool) (given : Given) (h : List Event) (jobs : List Plai
     (act : PlayAct) (m : Moment) → HasInHand given h jobs hand
     → ((p : ℕ) → act ≡ Assign p → ⊥) → ((p : ℕ) → act ≡ Commit p → ⊥)
     → ((p max : ℕ) → act ≡ Poll p max → ⊥) → ((w : ℕ) → act ≡ Take w → ⊥)
-    → ((t : ℕ) → act ≡ End t → ⊥) → ((p : ℕ) → act ≡ Revoke p → ⊥)
+    → ((t : ℕ) → act ≡ End t → ⊥) → ((n : ℕ) → act ≡ Tick n → ⊥)
+    → ((p : ℕ) → act ≡ Revoke p → ⊥)
     → ((p : ℕ) → act ≡ Lose p → ⊥) → (act ≡ Crash → ⊥)
     → Makes told given h jobs act m m h hand None
-none-made told given h jobs hand (Assign p) m has assign commit poll take end revoke lose crash =
+none-made told given h jobs hand (Assign p) m has assign commit poll take end tick revoke lose crash =
     absurd (assign p refl)
-none-made told given h jobs hand (Commit p) m has assign commit poll take end revoke lose crash =
+none-made told given h jobs hand (Commit p) m has assign commit poll take end tick revoke lose crash =
     absurd (commit p refl)
-none-made told given h jobs hand (Poll p max) m has assign commit poll take end revoke lose crash =
+none-made told given h jobs hand (Poll p max) m has assign commit poll take end tick revoke lose crash =
     absurd (poll p max refl)
-none-made told given h jobs hand (Take w) m has assign commit poll take end revoke lose crash =
+none-made told given h jobs hand (Take w) m has assign commit poll take end tick revoke lose crash =
     absurd (take w refl)
-none-made told given h jobs hand (End t) m has assign commit poll take end revoke lose crash =
+none-made told given h jobs hand (End t) m has assign commit poll take end tick revoke lose crash =
     absurd (end t refl)
-none-made told given h jobs hand (Revoke p) m has assign commit poll take end revoke lose crash =
+none-made told given h jobs hand (Tick n) m has assign commit poll take end tick revoke lose crash =
+    absurd (tick n refl)
+none-made told given h jobs hand (Revoke p) m has assign commit poll take end tick revoke lose crash =
     absurd (revoke p refl)
-none-made told given h jobs hand (Lose p) m has assign commit poll take end revoke lose crash =
+none-made told given h jobs hand (Lose p) m has assign commit poll take end tick revoke lose crash =
     absurd (lose p refl)
-none-made told given h jobs hand Crash m has assign commit poll take end revoke lose crash =
+none-made told given h jobs hand Crash m has assign commit poll take end tick revoke lose crash =
     absurd (crash refl)
-none-made told given h jobs hand act m has assign commit poll take end revoke lose crash = record {
+none-made told given h jobs hand act m has assign commit poll take end tick revoke lose crash = record {
   comes = record { asked = Err client.NoMemory; asks = refl; events = refl };
   notice_is = refl;
   in_hand = has;

@@ -1,6 +1,6 @@
 -- The jobs in hand after one more event: the engine expects the result of each of them.
 use Rattle.std.proofs.Common.{◌≡◌, ◌≤◌, ◌<◌, ◌+◌, inl, inr, ℕ, Bool, true, false, not, ◌&&◌, ◌||◌, ◌==◌, cond, List, [], ◌∷◌, ◌++◌, length, Option, Some, None, Result, Ok, Err, refl, ap, sym, subst, ◌∙◌, arith}
-use Rattle.std.specs.Prelude.{option_map}
+use Rattle.std.specs.Prelude.{nat_le, option_map}
 use Rattle.std.specs.List.{AllByRecursion}
 use Rattle.std.specs.Option.{unwrap_or}
 use Rattle.std.proofs.lemmas.Bool.{cases_Bool, cases_lt, eqb-true, ne_eqb}
@@ -17,7 +17,7 @@ use Rattle.pc_model.specs.Jobs.{Job, dispatch_count, has_ended, is_settled, jobs
 use Rattle.pc_model.specs.Known.{unpolled_records}
 use Rattle.pc_model.specs.Next.{next_record}
 use Rattle.pc_model.specs.Pressure.{is_blocked, is_upto_high}
-use Rattle.pc_model.specs.Retry.{failures_of}
+use Rattle.pc_model.specs.Retry.{failures_of, now_of}
 use Rattle.pc_model.proofs.ListLemmas.{same_number}
 use Rattle.pc_laws.proofs.Lists.{In-find}
 use Rattle.pc_laws.proofs.OrderlyLaw.{polled-record}
@@ -26,12 +26,13 @@ use Rattle.pc_offset_client.specs.declared.fault.ClientFault.TheVariants as clie
 use Rattle.pc_task.specs.Jobs.{PlainJob, plain_job, due_outcome}
 use Rattle.pc_task.specs.declared.job.Job.{Job as TaskJob}
 use Rattle.pc_engine.specs.declared.fault.EngineFault.{EngineFault}
-use Rattle.pc_engine.specs.declared.jobs.OpenJob.{OpenJob}
-use Rattle.pc_engine.specs.Effect.{IsExpected, assign_after, assign_refusal, assign_step, assign_with, commit_after, commit_refusal, commit_step, crash_after, crash_refusal, crash_step, lose_after, lose_refusal, lose_step, revoke_after, revoke_refusal, revoke_step, is_full, job_to_do, no_record, poll_after, poll_left, poll_refusal, poll_step, settle_current, settle_step, take_after, take_next, take_refusal, take_step}
-use Rattle.pc_engine.specs.OpenJobs.{kept_job, open_job}
-use Rattle.pc_engine.proofs.DispatchLemmas.{next-open}
-use Rattle.pc_engine.proofs.OpenJobsLemmas.{open_job-dispatch, open_job-settled}
-use Rattle.pc_engine.proofs.PlainLemmas.{find-at}
+use Rattle.pc_state.specs.declared.jobs.OpenJob.{OpenJob}
+use Rattle.pc_state.specs.Calls.{IsExpected, job_to_do, no_record}
+use Rattle.pc_engine.specs.Effect.{assign_after, assign_refusal, assign_step, assign_with, commit_after, commit_refusal, commit_step, crash_after, crash_refusal, crash_step, tick_after, tick_refusal, tick_step, lose_after, lose_refusal, lose_step, revoke_after, revoke_refusal, revoke_step, is_full, poll_after, poll_left, poll_refusal, poll_step, settle_current, settle_step, take_after, take_next, take_refusal, take_step}
+use Rattle.pc_state.specs.OpenJobs.{kept_job, open_job}
+use Rattle.pc_state.proofs.DispatchLemmas.{next-open}
+use Rattle.pc_state.proofs.OpenJobsLemmas.{open_job-dispatch, open_job-settled}
+use Rattle.pc_laws.proofs.JobsLaw.{find-some}
 use Rattle.parcon.specs.Hand.{IsFresh, job_with, without}
 use Rattle.parcon.specs.Play.{end_job, hand_after}
 
@@ -221,6 +222,18 @@ module _ (given : Given) (h : List Event) (jobs : List PlainJob) (e : Expects gi
       after (Some fault) = e
       after None = quiet given h jobs _ (λ t. refl) refl (λ t. refl) e
 
+  -- a tick
+  pub tick-expects : (n : ℕ) → Expects given ((tick_step h n).events ++ h) jobs
+  unfolding open_job
+  tick-expects n = after (tick_refusal h n)
+    where
+      after : (r : Option EngineFault) → Expects given ((tick_after h n r).events ++ h) jobs
+      after (Some fault) = e
+      after None = elim (cases_Bool (nat_le n (now_of h))) [
+        | inl old ↦ rw old e
+        | inr new ↦ rw new (quiet given h jobs _ (λ t. refl) refl (λ t. refl) e)
+      ]
+
   -- a revocation, with the commit before it
   pub revoke-expects : (p : ℕ) (o : Result (Unit {0}) ClientFault)
       → Expects given ((revoke_step given h p o).events ++ h) jobs
@@ -288,7 +301,7 @@ module _ (given : Given) (h : List Event) (jobs : List PlainJob) (e : Expects gi
       let t = dispatch_count h + 1 in
       let new = e.fresh (dispatch_count h + 1) (omega arith) in
       let at = next-open given h p o next in
-      let found = find-at o at.entry (records_of given p)
+      let found = find-some o at.entry (records_of given p)
       (polled-record given h p at.entry at.polled).0 at.offset in
       let here = In-find (λ q. q.offset == o) found.0 (records_of given p) found.1 in
       let entry_is : unwrap_or (record_at given p o) no_record ≡ found.0 =

@@ -21,7 +21,7 @@ use Rattle.pc_model.specs.Broker.{Broker}
 use Rattle.pc_engine.specs.Effect.{StoresOnly}
 use Rattle.pc_engine.specs.Engine.{given_by}
 use Rattle.pc_engine.proofs.EngineLemmas.{start_of-given_by, stores_only-same}
-use Rattle.pc_engine.proofs.PartEvents.{log-below}
+use Rattle.pc_state.proofs.PartEvents.{log-below}
 use Rattle.parcon.specs.declared.remark.Remark.{Remark}
 use Rattle.parcon.specs.declared.remark.Notice.{Notice}
 use Rattle.parcon.specs.declared.hand.Hand.{Hand}

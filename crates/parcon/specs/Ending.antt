@@ -13,7 +13,7 @@ use Rattle.pc_offset_client.specs.declared.fault.ClientFault.TheVariants as clie
 use Rattle.pc_engine.specs.declared.fault.EngineFault.{EngineFault}
 use Rattle.pc_engine.specs.declared.fault.EngineFault.TheVariants as engine
 use Rattle.parcon.specs.declared.remark.Notice.{Notice}
-use Rattle.parcon.specs.declared.remark.Notice.TheVariants.{Refused, NoJob, AtEnd, Stranger}
+use Rattle.parcon.specs.declared.remark.Notice.TheVariants.{Refused, NoJob, AtEnd, OldTime, Stranger}
 use Rattle.parcon.specs.declared.remark.Remark.{Remark}
 use Rattle.parcon.specs.declared.status.Status.{Status}
 use Rattle.parcon.specs.declared.status.Status.TheVariants as status
@@ -79,6 +79,7 @@ abbrev pub notice_words : Notice → List (List ℕ)
 notice_words (Refused fault) = refusal_words fault
 notice_words NoJob = codes "none" ∷ []
 notice_words AtEnd = codes "at-end" ∷ []
+notice_words OldTime = codes "old-time" ∷ []
 notice_words Stranger = codes "stranger" ∷ []
 
 -- the line of a remark

@@ -6,8 +6,8 @@ use Rattle.pc_model.specs.declared.event.Event.{Event}
 use Rattle.pc_model.specs.Given.{Given}
 use Rattle.pc_model.specs.Jobs.{dispatch_count, is_settled}
 use Rattle.pc_task.specs.Jobs.{PlainJob, plain_job}
-use Rattle.pc_engine.specs.Effect.{IsExpected}
-use Rattle.pc_engine.specs.OpenJobs.{open_job}
+use Rattle.pc_state.specs.Calls.{IsExpected}
+use Rattle.pc_state.specs.OpenJobs.{open_job}
 use Rattle.parcon.specs.declared.hand.Hand.{Hand}
 
 -- the job with a ticket, if there is one

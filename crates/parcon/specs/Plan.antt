@@ -3,7 +3,7 @@ use Rattle.std.specs.Prelude.{ℕ, ◌≡◌, ◌<◌, ◌≤◌, ◌+◌, ◌++
 use Rattle.pc_model.specs.declared.limits.TheConstants.{MAX_RECORDS, MAX_SCRIPT_LINES}
 use Rattle.pc_model.specs.Record.{Record}
 use Rattle.pc_script.specs.declared.play.PlayAct.{PlayAct}
-use Rattle.pc_script.specs.declared.play.PlayAct.TheVariants.{Assign, Commit, Poll, Take, End, Revoke, Lose, Crash}
+use Rattle.pc_script.specs.declared.play.PlayAct.TheVariants.{Assign, Commit, Poll, Take, End, Tick, Revoke, Lose, Crash}
 use Rattle.pc_script.specs.declared.play.PlayLine.{PlayLine}
 use Rattle.pc_script.specs.declared.fault.ScriptReadFault.{ScriptReadFault}
 use Rattle.pc_script.specs.declared.fault.ScriptReadFault.TheVariants.{Bad, TooManyLines, NoMemory}
@@ -79,6 +79,7 @@ is_built (Commit part) = true
 is_built (Poll part max) = true
 is_built (Take worker) = true
 is_built (End ticket) = true
+is_built (Tick now) = true
 is_built (Revoke part) = true
 is_built (Lose part) = true
 is_built Crash = true

@@ -1,6 +1,6 @@
 -- The play of a script: what each line does to the history and to the jobs in hand, and what it
 -- leaves to be remarked.
-use Rattle.std.specs.Prelude.{ℕ, ◌≡◌, ◌≤◌, ◌⊎◌, ◌==◌, Bool, true, if◌then◌else◌, List, [], ◌∷◌, ◌++◌, take, Option, Some, None, Result, Ok, Err}
+use Rattle.std.specs.Prelude.{ℕ, ◌≡◌, ◌≤◌, ◌⊎◌, ◌==◌, Bool, true, false, if◌then◌else◌, List, [], ◌∷◌, ◌++◌, take, Option, Some, None, Result, Ok, Err}
 use Rattle.pc_model.specs.declared.commit.Commit.{Commit as StoredCommit}
 use Rattle.pc_model.specs.declared.event.Event.{Event}
 use Rattle.pc_model.specs.Given.{Given}
@@ -9,7 +9,7 @@ use Rattle.pc_model.specs.Known.{commit_of}
 use Rattle.pc_model.specs.Broker.{Broker}
 use Rattle.pc_task.specs.Jobs.{PlainJob, due_outcome}
 use Rattle.pc_script.specs.declared.play.PlayAct.{PlayAct}
-use Rattle.pc_script.specs.declared.play.PlayAct.TheVariants.{Assign, Commit, Poll, Take, End, Revoke, Lose, Crash}
+use Rattle.pc_script.specs.declared.play.PlayAct.TheVariants.{Assign, Commit, Poll, Take, End, Tick, Revoke, Lose, Crash}
 use Rattle.pc_script.specs.declared.play.PlayLine.{PlayLine}
 use Rattle.pc_offset_client.specs.declared.fault.ClientFault.{ClientFault}
 use Rattle.pc_offset_client.specs.declared.fault.ClientFault.TheVariants.{NoMemory}
@@ -17,9 +17,9 @@ use Rattle.pc_engine.specs.declared.fault.EngineFault.{EngineFault}
 use Rattle.pc_engine.specs.declared.fault.EngineFault.TheVariants.{Closed}
 use Rattle.pc_engine.specs.declared.settled.Settled.{Settled}
 use Rattle.pc_engine.specs.declared.settled.Settled.TheVariants as settled
-use Rattle.pc_engine.specs.Effect.{IsFetched, IsStored, assign_refusal, assign_step, commit_refusal, commit_step, crash_step, lose_step, poll_step, revoke_refusal, revoke_step, settle_step, take_step}
+use Rattle.pc_engine.specs.Effect.{IsFetched, IsStored, assign_refusal, assign_step, commit_refusal, commit_step, crash_step, lose_step, poll_step, revoke_refusal, revoke_step, settle_step, take_step, tick_step}
 use Rattle.parcon.specs.declared.remark.Notice.{Notice}
-use Rattle.parcon.specs.declared.remark.Notice.TheVariants.{Refused, NoJob, AtEnd, Stranger}
+use Rattle.parcon.specs.declared.remark.Notice.TheVariants.{Refused, NoJob, AtEnd, OldTime, Stranger}
 use Rattle.parcon.specs.declared.remark.Remark.{Remark}
 use Rattle.parcon.specs.declared.hand.Hand.{Hand}
 use Rattle.parcon.specs.Hand.{HasInHand, job_with, without}
@@ -68,6 +68,12 @@ take_notice (Ok None) = Some NoJob
 take_notice (Ok (Some job)) = None
 take_notice (Err fault) = Some (Refused fault)
 
+-- and a tick to a time that is not later
+abbrev pub tick_notice : Result Bool EngineFault → Option Notice
+tick_notice (Ok true) = None
+tick_notice (Ok false) = Some OldTime
+tick_notice (Err fault) = Some (Refused fault)
+
 -- a job that was taken comes into hand
 abbrev pub hand_after : Result (Option PlainJob) EngineFault → List PlainJob → List PlainJob
 hand_after (Ok (Some job)) hand = job ∷ hand
@@ -113,6 +119,9 @@ step_of given h hand (Take worker) asked =
       notice = take_notice step.answer;
     }
 step_of given h hand (End ticket) asked = end_step given h hand ticket (job_with ticket hand)
+step_of given h hand (Tick now) asked =
+    let step = tick_step h now in
+    record { events = step.events; hand = hand; notice = tick_notice step.answer }
 step_of given h hand (Revoke part) asked =
     let step = revoke_step given h part (done_by asked) in
     record { events = step.events; hand = hand; notice = call_notice step.answer }

@@ -3,10 +3,11 @@
 ghost use Rattle.std.specs.Prelude.{◌≡◌, ◌≤◌, ◌<◌, ◌++◌, ℕ, List, true, IfOk, MatchResult, OnErr, Some, Ok};
 ghost use Rattle.pc_model.specs.Given.{has_log};
 ghost use Rattle.pc_script.specs.PlayScript.{IsPlayable};
-ghost use Rattle.pc_script.specs.declared.play.PlayAct.TheVariants.{Assign, Commit, Poll, Take, End, Revoke, Lose, Crash};
+ghost use Rattle.pc_script.specs.declared.play.PlayAct.TheVariants.{Assign, Commit, Poll, Take, End, Tick, Revoke, Lose, Crash};
 ghost use Rattle.pc_task.specs.Jobs.{PlainJob, plain_job};
 ghost use Rattle.pc_engine.specs.declared.fault.EngineFault.TheVariants.{NoMemory};
-ghost use Rattle.pc_engine.specs.Effect.{IsExpected, StoresOnly};
+ghost use Rattle.pc_state.specs.Calls.{IsExpected};
+ghost use Rattle.pc_engine.specs.Effect.{StoresOnly};
 ghost use Rattle.parcon.specs.declared.hand.Hand.{Hand};
 ghost use Rattle.parcon.specs.declared.remark.Notice.TheVariants.{Refused};
 ghost use Rattle.parcon.specs.Play.{Calls, end_job, moment, poll_notice, settled_notice};
@@ -45,6 +46,7 @@ pub(crate) fn call<'a, L: Link>(
         PlayAct::Poll { part, max } => poll(engine, part, max),
         PlayAct::Take(worker) => take(engine, hand, worker),
         PlayAct::End(ticket) => end(alloc, engine, hand, ticket),
+        PlayAct::Tick(now) => tick(engine, now),
         PlayAct::Revoke(part) => revoke(engine, part),
         PlayAct::Lose(part) => lose(engine, part),
         PlayAct::Crash => crash(engine),
@@ -201,6 +203,23 @@ fn settled(settled: Settled<'_>) -> Option<Notice>
         Settled::Closed(_) => Some(Notice::Refused(EngineFault::Closed)),
         Settled::Stranger(_) => Some(Notice::Stranger),
         Settled::Stale | Settled::Succeeded | Settled::Failed { .. } => None,
+    }
+}
+
+/// Moves the clock on.
+fn tick<L: Link>(engine: &mut Engine<'_, L>, now: u64) -> Result<Option<Notice>, AllocError>
+    ensures effect { (hand : Hand) → Calls (L.is_told engine.old.link) engine.old.given
+        engine.old.journal.events (Tick now)
+        (moment (L.store engine.old.link) (L.faults engine.old.link))
+        (moment (L.store engine.new.link) (L.faults engine.new.link))
+        engine.new.journal.events hand hand result }
+    ensures given { engine.new.given ≡ engine.old.given }
+    ensures link { engine.new.link ≡ engine.old.link }
+{
+    match engine.tick(now) {
+        Ok(true) => Ok(None),
+        Ok(false) => Ok(Some(Notice::OldTime)),
+        Err(fault) => refused(fault),
     }
 }
 

@@ -161,6 +161,7 @@ fn is_built(act: PlayAct) -> bool
             | PlayAct::Poll { .. }
             | PlayAct::Take(_)
             | PlayAct::End(_)
+            | PlayAct::Tick(_)
             | PlayAct::Revoke(_)
             | PlayAct::Lose(_)
             | PlayAct::Crash

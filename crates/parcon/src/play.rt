@@ -2,7 +2,6 @@
 
 ghost use Rattle.std.specs.Prelude.{◌≡◌, ◌≤◌, List, true, [], OnErr, OnOk, IsErr};
 ghost use Rattle.pc_model.specs.Given.{has_log};
-ghost use Rattle.pc_model.specs.declared.choices.Order.TheVariants.{None as NoOrder};
 ghost use Rattle.pc_script.specs.PlayScript.{ArePlayable, IsPlayable};
 ghost use Rattle.pc_offset_client.specs.Client.{kept_for};
 ghost use Rattle.pc_task.specs.Jobs.{PlainJob};
@@ -145,8 +144,7 @@ fn left<L: Link>(engine: Engine<'_, L>, remarks: Result<Vec<Remark>, AllocError>
     }
 }
 
-/// Plays the lines over these logs, with a setup. So far each record has to be its own ordering key,
-/// and none may fail.
+/// Plays the lines over these logs, with a setup.
 pub(crate) fn play<L: Link>(
     alloc: Global,
     setup: &Setup,
@@ -154,8 +152,6 @@ pub(crate) fn play<L: Link>(
     lines: &[PlayLine],
     link: L,
 ) -> Played<L>
-    requires order { setup.now.settings.order ≡ NoOrder }
-    requires fails { setup.now.settings.rules.fails ≡ [] }
     requires playable { ArePlayable lines.now }
     ensures kept { let given = given_by setup.now logs.now [] (L.is_told link) (kept_for (L.store link)) in
         IsKept given (L.store link) (L.store result.link) result.journal.events }

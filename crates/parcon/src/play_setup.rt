@@ -1,7 +1,6 @@
 //! The call below the top one: a play with any setup over any logs, and what it ends with.
 
 ghost use Rattle.std.specs.Prelude.{◌≡◌, Ok, [], MatchResult};
-ghost use Rattle.pc_model.specs.declared.choices.Order.TheVariants.{None as NoOrder};
 ghost use Rattle.pc_offset_client.specs.Client.{kept_for};
 ghost use Rattle.pc_engine.specs.Engine.{given_by};
 ghost use Rattle.parcon.specs.declared.status.Status.TheVariants.{NoMemory, Whole};
@@ -27,7 +26,7 @@ pub struct Ended<L: Link> {
 }
 
 /// Plays the lines of a script over these logs, with a setup. It waits for nobody and always
-/// returns. So far each record has to be its own ordering key, and none may fail.
+/// returns.
 ///
 /// The output is the text of the history and the remarks, with the status `Whole`. Where the sink
 /// fails the status is `SinkFault`, and where memory runs out `NoMemory`; the output is then the
@@ -40,8 +39,6 @@ pub fn play_setup<L: Link, O: Sink>(
     link: L,
     out: &mut O,
 ) -> Ended<L>
-    requires order { setup.now.settings.order ≡ NoOrder }
-    requires fails { setup.now.settings.rules.fails ≡ [] }
     ensures { Plays
         (given_by setup.now logs.now [] (L.is_told link) (kept_for (L.store link))) (Ok script.now)
         (record {

@@ -19,6 +19,8 @@ pub(crate) enum Notice {
     NoJob,
     /// There was no record to poll.
     AtEnd,
+    /// The time of a tick is not after that of the last one.
+    OldTime,
     /// No job with the line's ticket is in hand.
     Stranger,
 }
@@ -42,6 +44,7 @@ pub(crate) fn put_remark(out: &mut Vec<u8>, remark: &Remark) -> Result<(), Alloc
         Notice::Refused(fault) => put_refusal(out, n, fault),
         Notice::NoJob => put_line(out, b"line", &[Label(n), Name(b"none")]),
         Notice::AtEnd => put_line(out, b"line", &[Label(n), Name(b"at-end")]),
+        Notice::OldTime => put_line(out, b"line", &[Label(n), Name(b"old-time")]),
         Notice::Stranger => put_line(out, b"line", &[Label(n), Name(b"stranger")]),
     }
 }

@@ -1,7 +1,6 @@
 //! Plays with a setup that is not the default one.
 
 ghost use Rattle.std.specs.Prelude.{◌≡◌, [], IfOk};
-ghost use Rattle.pc_model.specs.declared.choices.Order.TheVariants.{None as NoOrder};
 
 use crate::play_setup::play_setup;
 use crate::tests::{ROOM, THREE_RECORDS};
@@ -19,10 +18,7 @@ use std::test::Fail;
 
 /// The usual setup, but for this limit of a map's characters, and the rule for a stored map that does
 /// not read.
-fn setup_with(alloc: Global, map_limit: u32, bad_map: BadMapRule) -> Result<Setup, Fail>
-    ensures order { IfOk result (λ setup. setup.settings.order ≡ NoOrder) }
-    ensures fails { IfOk result (λ setup. setup.settings.rules.fails ≡ []) }
-{
+fn setup_with(alloc: Global, map_limit: u32, bad_map: BadMapRule) -> Result<Setup, Fail> {
     let settings = Settings {
         order: Order::None,
         rules: Rules {

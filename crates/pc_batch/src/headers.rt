@@ -1,6 +1,6 @@
 //! The headers of a record: clauses see what is left of them as a list of keys and values.
 
-ghost use Rattle.std.specs.Prelude.{◌≡◌, ◌+◌, ◌<◌, ◌^◌, Ok, Err, IfOk, IfErr, length, ◌↔◌, IsTrue};
+ghost use Rattle.std.specs.Prelude.{◌≡◌, ◌+◌, ◌<◌, ◌^◌, [], Ok, Err, IfOk, IfErr, length, ◌↔◌, IsTrue};
 ghost use Rattle.std.specs.Option.{option_copied};
 ghost use Rattle.pc_batch.specs.Fields.{Reads};
 ghost use Rattle.pc_batch.specs.Headers.{header_at, after_headers, all_headers_at};
@@ -40,6 +40,17 @@ fn skip(reader: &mut Reader<'_>, count: u32) -> Result<(), RecordKind>
 
 impl<'a> Headers<'a> {
     ghost use Rattle.pc_batch.specs.Headers.{headers_left};
+
+    /// No headers.
+    #[tactic(auto, unfolding(crate::specs::Headers::headers_left, crate::specs::Headers::front_headers))]
+    pub fn none() -> Headers<'a>
+        ensures { headers_left result ≡ [] }
+    {
+        Headers {
+            bytes: &[],
+            count: 0,
+        }
+    }
 
     /// The count of headers, and so many headers up to the end of the bytes, each of them checked.
     pub(crate) fn of_rest(reader: &mut Reader<'a>) -> Result<Headers<'a>, RecordKind>

@@ -12,14 +12,14 @@ use Rattle.pc_model.specs.Epochs.{epoch_of}
 use Rattle.pc_model.specs.Stored.{may_store}
 use Rattle.pc_laws.specs.Lists.{In}
 use Rattle.pc_commit.specs.Resume.{map_refusal}
-use Rattle.pc_engine.specs.declared.state.State.{State}
+use Rattle.pc_state.specs.declared.state.State.{State}
 use Rattle.pc_engine.specs.Effect.{Does, assign_refusal, assign_step}
 use Rattle.pc_engine.specs.Engine.{IsEngine, first_assigned}
-use Rattle.pc_engine.specs.State.{Knows, MayCome}
+use Rattle.pc_state.specs.State.{Knows, MayCome}
 use Rattle.pc_engine.proofs.EngineEvents.{room-limit}
 use Rattle.pc_engine.proofs.EngineLemmas.{In-entry, MayAssign, assign-does, given_by-same, may_assign, option_or-none, unwrap-or-some}
 use Rattle.pc_engine.proofs.EngineStep.{given_to, given-known}
-use Rattle.pc_engine.proofs.PartEvents.{log-below}
+use Rattle.pc_state.proofs.PartEvents.{log-below}
 
 module _ (state : State) (h : List Event) (told : Bool) (kept : ℕ → Commit) (room : ℕ)
     (keeps : IsEngine (given_to state h told kept) kept state room h) (p : ℕ)

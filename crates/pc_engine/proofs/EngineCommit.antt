@@ -21,14 +21,14 @@ use Rattle.pc_offset_client.specs.declared.fault.ClientFault.TheVariants as clie
 use Rattle.pc_offset_client.specs.Client.{CommitGives}
 use Rattle.pc_engine.specs.declared.engine.Committed.{Committed as Receipt}
 use Rattle.pc_engine.specs.declared.fault.EngineFault.TheVariants.{Client}
-use Rattle.pc_engine.specs.declared.state.State.{State}
+use Rattle.pc_state.specs.declared.state.State.{State}
 use Rattle.pc_engine.specs.Effect.{Does, Step, commit_refusal, commit_step, commit_with}
 use Rattle.pc_engine.specs.Engine.{IsEngine, first_assigned}
-use Rattle.pc_engine.specs.State.{Knows, MayCome}
+use Rattle.pc_state.specs.State.{Knows, MayCome}
 use Rattle.pc_engine.proofs.EngineEvents.{room-limit}
 use Rattle.pc_engine.proofs.EngineLemmas.{KeepsAt, MayCommit, MayKeepAt, failed-other, given_by-same, held-assigned, keeps-others, may_commit, option_or-none, stored-other}
 use Rattle.pc_engine.proofs.EngineStep.{given_to, given-known}
-use Rattle.pc_engine.proofs.PartEvents.{log-below}
+use Rattle.pc_state.proofs.PartEvents.{log-below}
 
 -- an event that assigns nothing, where the link keeps of the other parts what it kept
 given-commit : (new : State) (h : List Event) (v : Event) (told : Bool) (kept kept' : ℕ → Commit)

@@ -11,12 +11,11 @@ use Rattle.pc_model.specs.Known.{assigned_by}
 use Rattle.pc_model.specs.Stored.{may_store}
 use Rattle.pc_laws.specs.Lists.{In}
 use Rattle.pc_laws.proofs.Lists.{true-not-false}
-use Rattle.pc_engine.specs.declared.state.State.{State}
+use Rattle.pc_state.specs.declared.state.State.{State}
 use Rattle.pc_engine.specs.Effect.{is_full}
 use Rattle.pc_engine.specs.Engine.{IsEngine, first_assigned, given_by}
-use Rattle.pc_engine.specs.State.{IsPlain, Knows}
+use Rattle.pc_state.specs.State.{Knows}
 use Rattle.pc_engine.proofs.EngineLemmas.{given_by-same, option_or-none, start-kept}
-use Rattle.pc_model.specs.declared.choices.Order.TheVariants.{None as NoOrder}
 
 -- an event that assigns nothing leaves what the run was given
 pub given_by-event : (setup : Setup) (logs : List (Option (List Record))) (h : List Event) (v : Event)
@@ -63,11 +62,9 @@ room-limit h more room = elim (cases_lt 4000000 (length h + length (open_jobs h)
 
 module _ (setup : Setup) (logs : List (Option (List Record))) (told : Bool) (kept : ℕ → Commit)
     (state : State) (starts : (given : Given) → given.setup ≡ setup → given.logs ≡ logs
-    → IsPlain given → Knows given [] state) (order : setup.settings.order ≡ NoOrder)
-    (fails : setup.settings.rules.fails ≡ []) where
+    → Knows given [] state) where
   known : Knows (given_by setup logs [] told kept) [] state
   known = starts (given_by setup logs [] told kept) refl refl
-      (record { order = order; fails = fails })
 
   pub start-given : given_by state.setup.now state.logs.now [] told kept
       ≡ given_by setup logs [] told kept

@@ -1,16 +1,11 @@
 -- What an engine's type keeps after each event.
 use Rattle.std.proofs.Common.{◌≡◌, ◌⊎◌, ℕ, zero, suc, ◌+◌, ◌≤◌, ◌<◌, Bool, true, false, ◌==◌, cond, List, [], ◌∷◌, map, length, Option, Some, None, Result, Ok, Err, refl, ap, sym, subst, ◌∙◌, arith, inl, inr, eq-eqb}
-use Rattle.std.specs.Prelude.{◌^◌, ◌&&◌, bytes_eq, find, nat_le, nat_lt, unwrap_or, is_none, IsTrue}
+use Rattle.std.specs.Prelude.{◌^◌, ◌&&◌, bytes_eq, find, nat_lt, unwrap_or}
 use Rattle.std.specs.List.{range_with_len}
 use Rattle.std.specs.Option.{option_or, option_map_or}
-use Rattle.std.proofs.lemmas.Bool.{cases_Bool, cases_lt, eqb-true, lt-ltb, ltb-true, leb-true}
+use Rattle.std.proofs.lemmas.Bool.{cases_Bool, cases_lt, eqb-true, lt-ltb, ltb-true}
 use Rattle.pc_model.specs.declared.setup.Setup.{Setup}
 use Rattle.pc_model.specs.declared.outcome.Start.{Start}
-use Rattle.pc_model.specs.declared.setup.Settings.{Settings}
-use Rattle.pc_model.specs.declared.setup.SetupField.{SetupField}
-use Rattle.pc_model.specs.declared.setup.SetupField.TheVariants.{MapLimit}
-use Rattle.pc_model.specs.declared.setup.SetupFault.{SetupFault}
-use Rattle.pc_model.specs.declared.setup.SetupFault.TheVariants.{OutOfRange}
 use Rattle.pc_model.proofs.SetupLaws.{setup-within}
 use Rattle.pc_model.specs.declared.commit.Commit.{Commit}
 use Rattle.pc_model.specs.declared.event.Event.{Event}

@@ -1,8 +1,7 @@
 -- The poll of the next records of a part: they are a front of those that were not polled, and the
 -- poll of them is lawful.
 use Rattle.std.proofs.Common.{◌≡◌, ℕ, zero, suc, ◌+◌, ◌-◌, ◌≤◌, ◌<◌, Bool, true, false, not, ◌&&◌, ◌||◌, List, [], ◌∷◌, ◌++◌, map, length, take, Option, Some, None, Result, Ok, Err, refl, ap, sym, subst, ◌∙◌, arith, inl, inr}
-use Rattle.std.specs.Prelude.{filter, if◌then◌else◌, nat_le, option_copied, option_map, slice_get, unwrap_or}
-use Rattle.std.specs.Borrow.{Bor}
+use Rattle.std.specs.Prelude.{filter, if◌then◌else◌, nat_le, option_map, slice_get, unwrap_or}
 use Rattle.std.specs.Option.{option_map_or}
 use Rattle.std.proofs.lemmas.Bool.{cases_Bool, le-leb, leb-true}
 use Rattle.std.proofs.lemmas.List.{length-map}
@@ -16,6 +15,8 @@ use Rattle.pc_model.specs.Epochs.{is_held}
 use Rattle.pc_model.specs.Known.{high_of, polled_count, records_from_begin, unpolled_records}
 use Rattle.pc_model.specs.Pressure.{is_blocked, is_upto_high}
 use Rattle.pc_model.specs.Lawful.{IsLegal}
+use Rattle.pc_batch.specs.declared.record.RecordRef.{RecordRef}
+use Rattle.pc_batch.specs.Record.{plain}
 use Rattle.pc_laws.proofs.Lists.{true-not-false}
 use Rattle.pc_laws.proofs.Rising.{Rises}
 use Rattle.pc_laws.proofs.Blocked.{Rises-drop}
@@ -23,11 +24,12 @@ use Rattle.pc_laws.proofs.HighLaw.{blocked_has_high}
 use Rattle.pc_laws.proofs.PositionLaw.{from_begin-rises}
 use Rattle.pc_engine.specs.declared.fault.EngineFault.{EngineFault}
 use Rattle.pc_engine.specs.declared.fault.EngineFault.TheVariants.{JournalFull, Pressed}
-use Rattle.pc_engine.specs.declared.state.State.{State}
-use Rattle.pc_engine.specs.Effect.{Does, Step, is_full, last_offset, next_records, poll_left, poll_refusal, poll_step, pollable_records, polls, refuses}
+use Rattle.pc_state.specs.declared.state.State.{State}
+use Rattle.pc_state.specs.Calls.{next_records, pollable_records}
+use Rattle.pc_engine.specs.Effect.{Does, Step, is_full, last_offset, poll_left, poll_refusal, poll_step, polls, refuses}
 use Rattle.pc_engine.specs.Engine.{IsEngine}
-use Rattle.pc_engine.specs.Polls.{AreNextRecords, offset_and_key, plain_next}
-use Rattle.pc_engine.specs.State.{Knows, MayCome}
+use Rattle.pc_state.specs.Polls.{AreNextRecords}
+use Rattle.pc_state.specs.State.{Knows, MayCome}
 use Rattle.pc_engine.proofs.EngineEvents.{room-limit}
 use Rattle.pc_engine.proofs.EngineTake.{not-full}
 use Rattle.pc_engine.proofs.EngineStep.{given_to, given-event, keeps-event}
@@ -137,21 +139,19 @@ module _ (given : Given) (h : List Event) (p : ℕ) (legal : IsLegal given h) wh
       ap (take max) front ∙ take-take max (length pollable) (unpolled_records given h p)
       ∙ ap (λ (rs : List Record). take (length (take max rs)) (unpolled_records given h p)) (sym front)
 
-  next-count : (max : ℕ) (records : List (ℕ × Option (Bor (List ℕ))))
-      → plain_next records ≡ map offset_and_key (next_records given h p max)
+  next-count : (max : ℕ) (records : List RecordRef)
+      → map plain records ≡ (next_records given h p max)
       → length records ≡ length (next_records given h p max)
   next-count max records is =
-      sym (length-map {B = ℕ × Option (List ℕ)} records (λ r. (r.0, option_copied r.1)))
-      ∙ ap length is
-      ∙ length-map {B = ℕ × Option (List ℕ)} (next_records given h p max) offset_and_key
+      sym (length-map {B = Record} records plain) ∙ ap length is
 
   -- what was put are the next records that were not polled
-  pub are-next : (max : ℕ) (records : List (ℕ × Option (Bor (List ℕ))))
-      → plain_next records ≡ map offset_and_key (next_records given h p max)
+  pub are-next : (max : ℕ) (records : List RecordRef)
+      → map plain records ≡ (next_records given h p max)
       → AreNextRecords given h p records
   are-next max records is =
-      is ∙ ap (λ (rs : List Record). map offset_and_key rs) (next-front max
-      ∙ ap (λ (n : ℕ). take n (unpolled_records given h p)) (sym (next-count max records is)))
+      is ∙ next-front max
+      ∙ ap (λ (n : ℕ). take n (unpolled_records given h p)) (sym (next-count max records is))
 
 -- the first record that is left, if none presses it
 first-taken : (given : Given) (h : List Event) (p max first : ℕ) → 0 < max
@@ -175,9 +175,9 @@ first-taken given h p max first some is may =
         rw passed (omega arith)
 
 -- the offset of the last of the records that were put
-pub last-plain : (records : List (ℕ × Option (Bor (List ℕ)))) (rs : List Record)
-    (x : ℕ × Option (Bor (List ℕ))) → plain_next records ≡ map offset_and_key rs
-    → slice_get records (length records - 1) ≡ Some x → x.0 ≡ last_offset rs
+pub last-plain : (records : List RecordRef) (rs : List Record)
+    (x : RecordRef) → map plain records ≡ rs
+    → slice_get records (length records - 1) ≡ Some x → x.offset ≡ last_offset rs
 last-plain records rs x is at = last-at records rs is at
   where
     heads : {X : Type 0} → {a b : X} → {ls ms : List X} → a ∷ ls ≡ b ∷ ms → a ≡ b
@@ -189,12 +189,12 @@ last-plain records rs x is at = last-at records rs is at
     same : {X : Type 0} → {a b : X} → Some a ≡ Some b → a ≡ b
     same e = cc
 
-    last-at : (ys : List (ℕ × Option (Bor (List ℕ)))) (rs : List Record)
-        → plain_next ys ≡ map offset_and_key rs → slice_get ys (length ys - 1) ≡ Some x
-        → x.0 ≡ last_offset rs
+    last-at : (ys : List RecordRef) (rs : List Record)
+        → map plain ys ≡ rs → slice_get ys (length ys - 1) ≡ Some x
+        → x.offset ≡ last_offset rs
     last-at [] rs is at = cc
     last-at (y ∷ []) [] is at = cc
-    last-at (y ∷ []) (r ∷ []) is at = sym (ap (λ z. z.0) (same at)) ∙ ap (λ z. z.0) (heads is)
+    last-at (y ∷ []) (r ∷ []) is at = sym (ap (λ (z : RecordRef). z.offset) (same at)) ∙ ap (λ (z : Record). z.offset) (heads is)
     last-at (y ∷ []) (r ∷ q ∷ rs) is at = cc
     last-at (y ∷ z ∷ ys) [] is at = cc
     last-at (y ∷ z ∷ ys) (r ∷ []) is at = cc
@@ -358,9 +358,9 @@ module _ (state : State) (h : List Event) (told : Bool) (kept : ℕ → Commit) 
     (left : Some first
     ≡ option_map (λ r. r.offset) (slice_get (unpolled_records (given_to state h told kept) h p) 0))
     (free : may_poll (given_to state h told kept) h p first ≡ true)
-    (records : List (ℕ × Option (Bor (List ℕ))))
-    (next : plain_next records
-    ≡ map offset_and_key (next_records (given_to state h told kept) h p max)) where
+    (records : List RecordRef)
+    (next : map plain records
+    ≡ (next_records (given_to state h told kept) h p max)) where
   abbrev given : Given
   given = given_to state h told kept
 

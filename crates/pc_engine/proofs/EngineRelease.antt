@@ -9,10 +9,10 @@ use Rattle.pc_model.specs.Jobs.{has_ended, open_jobs}
 use Rattle.pc_model.specs.Epochs.{epoch_of, is_held}
 use Rattle.pc_engine.specs.declared.fault.EngineFault.{EngineFault}
 use Rattle.pc_engine.specs.declared.fault.EngineFault.TheVariants.{JournalFull, NotHeld, UnknownPart}
-use Rattle.pc_engine.specs.declared.state.State.{State}
+use Rattle.pc_state.specs.declared.state.State.{State}
 use Rattle.pc_engine.specs.Effect.{Does, held_refusal, is_full, lose_after, lose_step, refused_by}
 use Rattle.pc_engine.specs.Engine.{IsEngine}
-use Rattle.pc_engine.specs.State.{Knows, MayCome}
+use Rattle.pc_state.specs.State.{Knows, MayCome}
 use Rattle.pc_engine.proofs.EngineEvents.{room-limit}
 use Rattle.pc_engine.proofs.EngineLemmas.{refused-none}
 use Rattle.pc_engine.proofs.EngineStep.{given_to, given-event, keeps-event}
@@ -113,7 +113,7 @@ module _ (state : State) (h : List Event) (told : Bool) (kept : ℕ → Commit) 
     limit = let limit = room-limit h 1 room_left in omega (arith, limit);
   }
 
-  crashed-keeps : (new : State) (h1 h' : List Event) (room1 room' n : ℕ) (u : Unit {0})
+  pub crashed-keeps : (new : State) (h1 h' : List Event) (room1 room' n : ℕ) (u : Unit {0})
       → ◌≡◌ {A = Result (Unit {0}) EngineFault} (Ok u)
       (cond (is_full h 1) (Err JournalFull) (Ok tt))
       → (MayCome given Crash h → Knows given (Crash ∷ h) new)

@@ -18,10 +18,10 @@ use Rattle.pc_offset_client.specs.declared.fault.ClientFault.TheVariants as clie
 use Rattle.pc_engine.specs.declared.engine.Committed.{Committed as Receipt}
 use Rattle.pc_engine.specs.declared.fault.EngineFault.{EngineFault}
 use Rattle.pc_engine.specs.declared.fault.EngineFault.TheVariants.{Client, NoMemory}
-use Rattle.pc_engine.specs.declared.state.State.{State}
+use Rattle.pc_state.specs.declared.state.State.{State}
 use Rattle.pc_engine.specs.Effect.{Does, IsStored, Step, commit_after, commit_refusal, commit_step, commit_with, failed_of, failure_of, held_refusal, is_full, refused_by, refuses, revoke_after, revoke_step, revoke_with}
 use Rattle.pc_engine.specs.Engine.{IsEngine}
-use Rattle.pc_engine.specs.State.{Knows, MayCome}
+use Rattle.pc_state.specs.State.{Knows, MayCome}
 use Rattle.pc_engine.proofs.EngineEvents.{room-limit}
 use Rattle.pc_engine.proofs.EngineStep.{given_to, given-event, keeps-event}
 

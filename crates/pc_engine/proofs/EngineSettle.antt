@@ -1,28 +1,58 @@
 -- What an engine's type keeps after a result that it expects.
-use Rattle.std.proofs.Common.{◌≡◌, ℕ, ◌+◌, Bool, true, false, ◌&&◌, ◌==◌, List, ◌∷◌, length, Option, Some, None, refl, ap, sym, ◌∙◌, arith, inl, inr}
-use Rattle.std.specs.Prelude.{find, if◌then◌else◌, is_some, option_map}
+use Rattle.std.proofs.Common.{◌≡◌, ℕ, zero, suc, ◌+◌, ◌<◌, Bool, true, false, ◌&&◌, ◌==◌, List, [], ◌∷◌, length, Option, Some, None, refl, ap, sym, ◌∙◌, arith, inl, inr}
+use Rattle.std.specs.Prelude.{find, if◌then◌else◌, is_none, is_some, option_map}
+use Rattle.std.specs.Option.{option_or}
 use Rattle.std.proofs.lemmas.Bool.{eqb-true}
 use Rattle.pc_model.specs.declared.commit.Commit.{Commit}
 use Rattle.pc_model.specs.declared.event.Event.{Event}
-use Rattle.pc_model.specs.declared.event.Event.TheVariants.{Stale, Success}
+use Rattle.pc_model.specs.declared.event.Event.TheVariants.{Dispatch, Failure, Stale, Success}
 use Rattle.pc_model.specs.declared.outcome.Outcome.{Outcome}
-use Rattle.pc_model.specs.declared.outcome.Outcome.TheVariants.{Good}
+use Rattle.pc_model.specs.declared.setup.Setup.{Setup}
+use Rattle.pc_model.specs.declared.setup.SetupFault.{SetupFault}
+use Rattle.pc_model.specs.declared.setup.SetupField.TheVariants.{Delays}
+use Rattle.pc_model.specs.Ranges.{delays_fault, number_fault, range_fault, settings_fault}
+use Rattle.pc_model.specs.declared.outcome.Outcome.TheVariants.{Bad, Good}
 use Rattle.pc_model.specs.Given.{Given, records_of}
-use Rattle.pc_model.specs.Jobs.{Job, is_outstanding, is_settled, job_of, open_jobs}
+use Rattle.pc_model.specs.Jobs.{Job, is_outstanding, is_settled, job_of, jobs_of, open_jobs}
+use Rattle.pc_model.specs.Lawful.{IsLegal}
 use Rattle.pc_model.specs.Epochs.{epoch_of, is_current_ticket, is_held}
-use Rattle.pc_model.specs.Outcomes.{outcome_of, ticket_outcome}
+use Rattle.pc_model.specs.Outcomes.{outcome_of, ticket_attempt, ticket_outcome}
+use Rattle.pc_model.specs.Retry.{now_of, ready_after}
+use Rattle.pc_laws.specs.Lists.{In}
+use Rattle.pc_laws.proofs.JobsLaw.{job-of}
 use Rattle.pc_laws.proofs.Lists.{and-left, and-right}
 use Rattle.pc_laws.proofs.Passing.{option_cases}
 use Rattle.pc_task.specs.Jobs.{PlainJob, due_outcome}
-use Rattle.pc_engine.specs.declared.jobs.OpenJob.{OpenJob}
-use Rattle.pc_engine.specs.declared.state.State.{State}
-use Rattle.pc_engine.specs.Effect.{IsExpected}
+use Rattle.pc_state.specs.declared.jobs.OpenJob.{OpenJob}
+use Rattle.pc_state.specs.declared.state.State.{State}
+use Rattle.pc_state.specs.Calls.{IsExpected}
+use Rattle.pc_engine.specs.Effect.{Settles, settle_step}
+use Rattle.pc_engine.specs.declared.settled.Settled.TheVariants.{Failed}
 use Rattle.pc_engine.specs.Engine.{IsEngine}
-use Rattle.pc_engine.specs.OpenJobs.{kept_job, open_job}
-use Rattle.pc_engine.specs.State.{Knows, MayCome}
+use Rattle.pc_state.specs.OpenJobs.{kept_job, open_job}
+use Rattle.pc_state.specs.State.{Knows, MayCome}
 use Rattle.pc_engine.proofs.EngineStep.{given_to, given-event, keeps-event}
-use Rattle.pc_engine.proofs.ExpectedLemmas.{kept_of}
-use Rattle.pc_engine.proofs.SettleLemmas.{find-open_jobs, open_jobs-stale, open_jobs-success, outstanding-find}
+use Rattle.pc_state.proofs.ExpectedLemmas.{kept_of}
+use Rattle.pc_state.proofs.SettleLemmas.{find-open_jobs, open_jobs-failure, open_jobs-stale, open_jobs-success, outstanding-find}
+
+-- ---- a setup has a delay
+
+first-none : (a b : Option SetupFault) → is_none (option_or a b) ≡ true
+    → (is_none a ≡ true) × (is_none b ≡ true)
+first-none None b is = (refl, is)
+first-none (Some f) b is = cc
+
+within-least : (n : ℕ) → is_none (range_fault Delays n) ≡ true → 0 < n
+within-least zero is = cc
+within-least (suc n) is = omega arith
+
+pub delays-some : (setup : Setup) → 0 < length setup.settings.delays
+unfolding settings_fault
+delays-some setup =
+    let rest = (first-none (number_fault setup.settings) _ setup.in_range).1 in
+    let delays = (first-none (delays_fault setup.settings.delays) _ rest).0 in
+    within-least (length setup.settings.delays)
+    (first-none (range_fault Delays (length setup.settings.delays)) _ delays).0
 
 -- ---- the job of an expected result
 
@@ -65,6 +95,29 @@ module _ (given : Given) (h : List Event) (job : PlainJob)
       (λ r. outcome_of given.setup.settings.rules k.part r k.attempt)
       (find (λ r. r.offset == k.offset) (records_of given k.part))) out.2
       ∙ rw (expected.entry, expected.rules) refl)
+
+-- its attempt, which is at least the first where it is current
+module _ (given : Given) (h : List Event) (job : PlainJob) (expected : IsExpected given h job) where
+  pub ticket-attempt : ticket_attempt h job.ticket ≡ job.attempt
+  unfolding ticket_attempt
+  ticket-attempt = let j = out given h job expected in
+      rw j.1 (ap (λ (k : OpenJob). k.attempt) j.2)
+
+attempts-some : (given : Given) (h : List Event) → IsLegal given h → (j : Job) → In j (jobs_of h)
+    → 0 < j.attempt
+attempts-some given [] legal j i = absurd i
+attempts-some given (Dispatch t w p o e a ∷ h) legal j (inl same) =
+    let at : j.attempt ≡ a = ap (λ (k : Job). k.attempt) same in
+    omega (arith, at, legal.0.attempt_is)
+attempts-some given (Dispatch t w p o e a ∷ h) legal j (inr i) = attempts-some given h legal.2 j i
+attempts-some given (v ∷ h) legal j i = attempts-some given h legal.2 j i
+
+pub attempt-some : (given : Given) (h : List Event) → IsLegal given h → (job : PlainJob)
+    → IsExpected given h job → 0 < job.attempt
+attempt-some given h legal job expected =
+    let j = out given h job expected in
+    let some = attempts-some given h legal j.0 (job-of h job.ticket j.0 j.1).0 in
+    let same = ap (λ (k : OpenJob). k.attempt) j.2 in omega (arith, some, same)
 
 -- ---- its event
 
@@ -118,6 +171,61 @@ module _ (state new : State) (h h' : List Event) (told : Bool) (kept : ℕ → C
     settled-keeps = keeps-event state new h h' told kept room room' (Success job.ticket answer)
         keeps (λ q. refl) knows-settled (λ q. refl) refl refl
         (omega (arith, fewer, less, keeps.room)) after
+
+  -- a failure of a job that is current
+  module _ (current : (is_held h job.part && (job.epoch == epoch_of h job.part)) ≡ true)
+      (code ready : ℕ) (outcome : Outcome) (due : outcome ≡ due_outcome job)
+      (bad : outcome ≡ Bad code) (at : ready ≡ ready_after state.setup.now.settings.delays job.attempt state.clock)
+      (does : (given : Given) (h : List Event) (k : OpenJob) (code : ℕ)
+      → Knows given h state → option_map kept_job (open_job h job.ticket) ≡ Some k
+      → k.part ≡ job.part → k.offset ≡ job.entry.offset → k.epoch ≡ epoch_of h job.part
+      → is_held h job.part ≡ true → MayCome given (Failure job.ticket code ready) h
+      → Knows given (Failure job.ticket code ready ∷ h) new)
+      (after : h' ≡ Failure job.ticket code ready ∷ h) where
+    fewer-failed : length (open_jobs (Failure job.ticket code ready ∷ h)) + 1 ≡ length (open_jobs h)
+    fewer-failed = open_jobs-failure given h keeps.knows.legal job.ticket outstanding code ready
+
+    pub failed-ready : ready ≡ ready_after given.setup.settings.delays job.attempt (now_of h)
+    failed-ready = at ∙ ap (λ (n : ℕ). ready_after given.setup.settings.delays job.attempt n)
+        keeps.knows.clock
+
+    may-fail : MayCome given (Failure job.ticket code ready) h
+    may-fail = record {
+      legal = (
+        record {
+          outstanding = outstanding;
+          current = ticket-current given h job expected ∙ current;
+          outcome = ticket-due given h job expected
+              ∙ ap (λ (x : Outcome). Some x) (sym due ∙ bad);
+          ready_is = failed-ready
+              ∙ ap (λ (n : ℕ). ready_after given.setup.settings.delays n (now_of h))
+              (sym (ticket-attempt given h job expected));
+        },
+        keeps.runs,
+        keeps.knows.legal,
+      );
+      limit = omega (arith, fewer-failed, keeps.knows.limit);
+    }
+
+    knows-failed : Knows given (Failure job.ticket code ready ∷ h) new
+    knows-failed = does given h (kept_of job) code keeps.knows expected.out refl refl
+        (eqb-true job.epoch (epoch_of h job.part) (and-right (is_held h job.part) _ current))
+        (and-left (is_held h job.part) _ current) may-fail
+
+    pub failed-given : given_to new h' told kept ≡ given
+    failed-given = given-event state new h h' told kept (Failure job.ticket code ready) (λ q. refl)
+        knows-failed after
+
+    pub failed-keeps : IsEngine (given_to new h' told kept) kept new room' h'
+    failed-keeps = keeps-event state new h h' told kept room room' (Failure job.ticket code ready)
+        keeps (λ q. refl) knows-failed (λ q. refl) refl refl
+        (omega (arith, fewer-failed, less, keeps.room)) after
+
+    pub failed-settles : Settles (Failed ready) (settle_step given h job outcome) h h'
+    failed-settles = rw (current, bad) (
+      (ap (λ (n : ℕ). Failed n) failed-ready),
+      after ∙ ap (λ (n : ℕ). Failure job.ticket code n ∷ h) failed-ready,
+    )
 
   -- a job whose epoch is over
   module _ (past : (is_held h job.part && (job.epoch == epoch_of h job.part)) ≡ false)

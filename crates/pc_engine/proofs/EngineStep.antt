@@ -8,9 +8,9 @@ use Rattle.pc_model.specs.Given.{Given}
 use Rattle.pc_model.specs.Jobs.{has_ended, is_draining, open_jobs}
 use Rattle.pc_model.specs.Known.{assigned_by}
 use Rattle.pc_model.specs.Stored.{may_store}
-use Rattle.pc_engine.specs.declared.state.State.{State}
+use Rattle.pc_state.specs.declared.state.State.{State}
 use Rattle.pc_engine.specs.Engine.{IsEngine, given_by}
-use Rattle.pc_engine.specs.State.{Knows}
+use Rattle.pc_state.specs.State.{Knows}
 use Rattle.pc_engine.proofs.EngineEvents.{IsEngine-event, given_by-event}
 
 -- what an engine with this state and journal was given

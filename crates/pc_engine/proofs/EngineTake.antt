@@ -13,13 +13,14 @@ use Rattle.pc_model.proofs.JobLaws.{open_jobs-dispatch}
 use Rattle.pc_task.specs.Jobs.{PlainJob}
 use Rattle.pc_engine.specs.declared.fault.EngineFault.{EngineFault}
 use Rattle.pc_engine.specs.declared.fault.EngineFault.TheVariants.{JournalFull}
-use Rattle.pc_engine.specs.declared.state.State.{State}
-use Rattle.pc_engine.specs.Effect.{is_full, job_to_do}
+use Rattle.pc_state.specs.declared.state.State.{State}
+use Rattle.pc_state.specs.Calls.{job_to_do}
+use Rattle.pc_engine.specs.Effect.{is_full}
 use Rattle.pc_engine.specs.Engine.{IsEngine}
-use Rattle.pc_engine.specs.State.{Knows, MayCome}
+use Rattle.pc_state.specs.State.{Knows, MayCome}
 use Rattle.pc_engine.proofs.EngineEvents.{room-limit}
 use Rattle.pc_engine.proofs.EngineStep.{given_to, keeps-event}
-use Rattle.pc_engine.proofs.SettleLemmas.{unsettled-above}
+use Rattle.pc_state.proofs.SettleLemmas.{unsettled-above}
 
 -- a call that was not refused for want of room has it
 pub not-full : (u : Unit {0}) (full : Bool) → ◌≡◌ {A = Result (Unit {0}) EngineFault} (Ok u)

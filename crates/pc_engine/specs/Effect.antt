@@ -1,17 +1,17 @@
 -- The exact effect of an engine's calls: the first refusal, or else the lawful event with its
 -- values.
-use Rattle.std.specs.Prelude.{ℕ, ◌+◌, ◌-◌, ◌≡◌, pos, Bool, true, false, not, ◌&&◌, ◌||◌, ◌==◌, nat_lt, if◌then◌else◌, bytes_eq, List, [], ◌∷◌, ◌++◌, length, take, filter, Option, Some, None, option_map, unwrap_or, slice_get, Result, Ok, Err}
+use Rattle.std.specs.Prelude.{ℕ, ◌+◌, ◌-◌, ◌≡◌, Bool, true, false, not, ◌&&◌, ◌==◌, nat_le, nat_lt, if◌then◌else◌, bytes_eq, List, [], ◌∷◌, ◌++◌, length, Option, Some, None, option_map, unwrap_or, slice_get, Result, Ok, Err}
 use Rattle.std.specs.Option.{option_map_or}
 use Rattle.pc_model.specs.declared.limits.TheConstants.{MAX_EVENTS}
 use Rattle.pc_model.specs.declared.commit.Commit.{Commit}
 use Rattle.pc_model.specs.declared.commit.SizedCommit.{SizedCommit}
 use Rattle.pc_model.specs.declared.event.Event.{Event}
-use Rattle.pc_model.specs.declared.event.Event.TheVariants.{Assign, Poll, Dispatch, Success, Failure, Stale as StaleResult, Commit as Committed, CommitFailed, Revoke, Lost, Crash}
+use Rattle.pc_model.specs.declared.event.Event.TheVariants.{Assign, Poll, Dispatch, Success, Failure, Stale as StaleResult, Commit as Committed, CommitFailed, Revoke, Lost, Crash, Tick}
 use Rattle.pc_model.specs.declared.outcome.Outcome.{Outcome}
 use Rattle.pc_model.specs.declared.outcome.Outcome.TheVariants.{Good, Bad}
 use Rattle.pc_model.specs.Record.{Record}
 use Rattle.pc_model.specs.declared.map_fault.MapFault.{MapFault}
-use Rattle.pc_model.specs.Given.{Given, has_log, record_at}
+use Rattle.pc_model.specs.Given.{Given, has_log}
 use Rattle.pc_model.specs.Jobs.{dispatch_count, has_ended, is_draining, open_jobs}
 use Rattle.pc_model.specs.Epochs.{epoch_of, is_held}
 use Rattle.pc_model.specs.Known.{commit_of, high_of, unpolled_records}
@@ -34,7 +34,7 @@ use Rattle.pc_engine.specs.declared.fault.EngineFault.{EngineFault}
 use Rattle.pc_engine.specs.declared.fault.EngineFault.TheVariants.{Closed, UnknownPart, AlreadyHeld, NotHeld, Draining, Pressed, JournalFull, Client, BadMap, NoMemory}
 use Rattle.pc_engine.specs.declared.settled.Settled.{Settled}
 use Rattle.pc_engine.specs.declared.settled.Settled.TheVariants.{Stale, Succeeded, Failed}
-use Rattle.pc_engine.specs.OpenJobs.{kept_job, open_job}
+use Rattle.pc_state.specs.Calls.{job_to_do, next_records}
 
 -- what a call answers, and the events that it adds, the newest first
 pub record Step (A : Type 0) : Type 0 where
@@ -122,17 +122,6 @@ commit_step given h p outcome = commit_after given h p outcome (commit_refusal g
 
 -- ---- poll
 
--- the records of the part that a poll may take: those that were not polled, under pressure only
--- those up to its high
-unfoldable pub pollable_records : Given → List Event → ℕ → List Record
-pollable_records given h p =
-    filter (λ r. not (is_blocked given h p) || is_upto_high given h p r.offset)
-    (unpolled_records given h p)
-
--- the next of them, at most so many
-abbrev pub next_records : Given → List Event → ℕ → ℕ → List Record
-next_records given h p max = take max (pollable_records given h p)
-
 -- the offset of the last record, and 0 where there is none
 abbrev pub last_offset : List Record → ℕ
 last_offset rs = option_map_or (λ r. r.offset) (slice_get rs (length rs - 1)) 0
@@ -173,22 +162,6 @@ poll_step given h p max = poll_after given h p max (poll_refusal given h p)
 abbrev pub take_refusal : List Event → Option EngineFault
 take_refusal h =
     if has_ended h then Some Closed else if is_full h 2 then Some JournalFull else None
-
--- a record that no log has
-abbrev pub no_record : Record
-no_record = record { offset = 0; time = pos 0; key = None; value = None; headers = [] }
-
--- the job of a record that is dispatched
-abbrev pub job_to_do : Given → List Event → ℕ → ℕ → ℕ → PlainJob
-job_to_do given h worker p o = record {
-  ticket = dispatch_count h + 1;
-  worker = worker;
-  part = p;
-  epoch = epoch_of h p;
-  attempt = failures_of h p o + 1;
-  entry = unwrap_or (record_at given p o) no_record;
-  rules = given.setup.settings.rules;
-}
 
 -- the dispatch of the next record, if there is one
 abbrev pub take_next : Given → List Event → ℕ → Option (ℕ × ℕ) → Step (Option PlainJob)
@@ -240,6 +213,24 @@ crash_after None = record { answer = Ok tt; events = Crash ∷ [] }
 abbrev pub crash_step : List Event → Step (Unit {0})
 crash_step h = crash_after (crash_refusal h)
 
+-- the first refusal of a tick that adds an event
+abbrev pub tick_refusal : List Event → ℕ → Option EngineFault
+tick_refusal h now =
+    if has_ended h then Some Closed
+    else if nat_le now (now_of h) then None
+    else if is_full h 1 then Some JournalFull
+    else None
+
+-- a tick comes where its number is above that of the last one, and else adds nothing
+abbrev pub tick_after : List Event → ℕ → Option EngineFault → Step Bool
+tick_after h now (Some fault) = refuses fault
+tick_after h now None =
+    if nat_le now (now_of h) then record { answer = Ok false; events = [] }
+    else record { answer = Ok true; events = Tick now ∷ [] }
+
+abbrev pub tick_step : List Event → ℕ → Step Bool
+tick_step h now = tick_after h now (tick_refusal h now)
+
 abbrev pub revoke_refusal : Given → List Event → ℕ → Option EngineFault
 revoke_refusal given h p = held_refusal given h p 2
 
@@ -274,18 +265,6 @@ abbrev pub revoke_step : Given → List Event → ℕ → Result (Unit {0}) Clie
 revoke_step given h p outcome = revoke_after given h p outcome (revoke_refusal given h p)
 
 -- ---- settle
-
--- The engine expects the result of this job: the job that is out under its ticket has its part,
--- offset, epoch and attempt, the log has its record, and its rules are those of the setup.
-pub record IsExpected (given : Given) (h : List Event) (job : PlainJob) : Type 0 where
-  pub out : option_map kept_job (open_job h job.ticket) ≡ Some (record {
-    part = job.part;
-    offset = job.entry.offset;
-    epoch = job.epoch;
-    attempt = job.attempt;
-  })
-  pub entry : record_at given job.part job.entry.offset ≡ Some job.entry
-  pub rules : job.rules ≡ given.setup.settings.rules
 
 -- what a settled result is, and the event that it adds
 pub record SettledStep : Type 0 where

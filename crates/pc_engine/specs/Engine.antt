@@ -13,8 +13,8 @@ use Rattle.pc_model.specs.Stored.{may_store}
 use Rattle.pc_model.specs.Known.{assigned_by}
 use Rattle.pc_model.specs.Record.{Record}
 use Rattle.pc_laws.specs.Lists.{In}
-use Rattle.pc_engine.specs.declared.state.State.{State}
-use Rattle.pc_engine.specs.State.{Knows}
+use Rattle.pc_state.specs.declared.state.State.{State}
+use Rattle.pc_state.specs.State.{Knows}
 
 -- an engine: what it was given, its journal, and its link
 pub record EngineView (L : Type 0) : Type 0 where

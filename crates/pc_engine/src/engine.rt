@@ -1,22 +1,22 @@
 //! The engine. Clauses see what it was given, its journal, and its link.
 
 ghost use Rattle.std.specs.Prelude.{◌≡◌, IfOk, List, OnErr, map};
-ghost use Rattle.pc_model.specs.Record.{Record};
 ghost use Rattle.pc_offset_client.specs.declared.fault.ClientFault.TheVariants.{NoMemory as Forgot};
-ghost use Rattle.pc_engine.specs.Polls.{offset_and_key, plain_next};
+ghost use Rattle.pc_model.specs.Record.{Record};
+ghost use Rattle.pc_batch.specs.Record.{plain};
 ghost use Rattle.pc_engine.specs.Effect.{last_offset};
 
 use crate::fault::EngineFault;
-use crate::part::PartState;
-use crate::polls::NextRecord;
+use crate::polls::unpressed;
 use crate::settled::Settled;
-use crate::state::State;
+use pc_batch::RecordRef;
 use pc_broker_log::BrokerLogs;
 use pc_commit::{commit_of, resume};
 use pc_model::limits::{MAX_EVENTS, MAX_RECORDS};
 use pc_model::{Commit as StoredCommit, Event, Journal, Outcome, Setup, SizedCommit};
 use pc_offset_client::{Client, ClientFault};
 use pc_partition::PartitionState;
+use pc_state::{PartState, State, ready_after};
 use pc_task::{Finished, Job};
 use pc_world::Link;
 use std::alloc::{AllocError, Global};
@@ -80,24 +80,22 @@ impl<'a, L: Link> Engine<'a, L> {
     ghost use Rattle.pc_laws.specs.Lists.{In};
     ghost use Rattle.pc_engine.specs.Effect.{Does, IsFetched, IsStored, KeepsStore, StoresOnly, assign_refusal, assign_step, commit_refusal, commit_step, is_full, refused_by};
     ghost use Rattle.pc_engine.specs.Engine.{given_by};
-    ghost use Rattle.pc_engine.specs.State.{PartKeeps};
-    ghost use Rattle.pc_model.specs.declared.choices.Order.TheVariants.{None as NoOrder};
+    ghost use Rattle.pc_state.specs.State.{PartKeeps};
     ghost use Rattle.pc_model.specs.Jobs.{open_jobs};
     ghost use Rattle.pc_model.specs.Epochs.{epoch_of};
     ghost use Rattle.pc_task.specs.Jobs.{finished_job};
     ghost use Rattle.pc_engine.specs.declared.settled.Settled.TheVariants.{Closed, Stranger};
-    ghost use Rattle.pc_engine.specs.Effect.{IsExpected, Settles, poll_refusal, poll_step, settle_step, spare, take_step, taken};
+    ghost use Rattle.pc_state.specs.Calls.{IsExpected};
+    ghost use Rattle.pc_engine.specs.Effect.{Settles, poll_refusal, poll_step, settle_step, spare, take_step, taken};
 
     /// An engine over these logs, without an event. The error is want of memory and gives the link
-    /// back. So far each record has to be its own ordering key, and none may fail.
+    /// back.
     pub fn start(
         alloc: Global,
         setup: &'a Setup,
         logs: &'a BrokerLogs<'a>,
         link: L,
     ) -> Result<Engine<'a, L>, L>
-        requires order { setup.now.settings.order ≡ NoOrder }
-        requires fails { setup.now.settings.rules.fails ≡ [] }
         ensures given { IfOk result
             (λ e. e.given ≡ given_by setup.now logs.now [] (L.is_told link)
             (kept_for (L.store link))) }
@@ -237,7 +235,7 @@ impl<'a, L: Link> Engine<'a, L> {
         let Some(first) = self.state.first_left(part) else {
             return Ok(0);
         };
-        self.state.unpressed(part, first)?;
+        unpressed(&self.state, part, first)?;
         self.has_room(1)?;
         self.journal.reserve(self.state.outstanding() + 1)?;
         let records = self.state.next_records(self.alloc, part, max)?;
@@ -304,7 +302,7 @@ impl<'a, L: Link> Engine<'a, L> {
             self.journal.push(Event::Stale { ticket });
             return Settled::Stale;
         }
-        self.succeed(done)
+        self.conclude(done)
     }
 
     /// Whether `settle` would answer neither `Closed` nor `Stranger`.
@@ -379,8 +377,8 @@ impl<'a, L: Link> Engine<'a, L> {
         }
     }
 
-    // Adds Success for the result of a current job.
-    fn succeed(&mut self, done: Finished<'a>) -> Settled<'a>
+    // Adds Success or Failure for the result of a current job.
+    fn conclude(&mut self, done: Finished<'a>) -> Settled<'a>
         requires expected { IsExpected self.old.given self.old.journal.events (finished_job done) }
         requires current { (is_held self.old.journal.events done.part
             && (done.epoch == epoch_of self.old.journal.events done.part)) ≡ true }
@@ -395,7 +393,7 @@ impl<'a, L: Link> Engine<'a, L> {
             worker: _,
             part,
             epoch: _,
-            attempt: _,
+            attempt,
             entry,
             rules: _,
             outcome,
@@ -406,7 +404,17 @@ impl<'a, L: Link> Engine<'a, L> {
                 self.journal.push(Event::Success { ticket, answer });
                 Settled::Succeeded
             }
-            Outcome::Bad(_) => unreachable!(),
+            Outcome::Bad(code) => {
+                let delays = self.state.setup.settings.delays.as_slice();
+                let ready_at = ready_after(delays, attempt, self.state.clock);
+                self.state.fail(ticket, part, entry.offset, ready_at);
+                self.journal.push(Event::Failure {
+                    ticket,
+                    code,
+                    ready_at,
+                });
+                Settled::Failed { ready_at }
+            }
         }
     }
 
@@ -514,12 +522,11 @@ fn lasting(fault: ClientFault) -> Result<ClientFault, AllocError>
 }
 
 /// The offset of the last record, and 0 where there is none.
-fn last_of(records: &[NextRecord<'_>]) -> u64
-    ensures { (rs : List Record) → plain_next records.now ≡ map offset_and_key rs
-        → result ≡ last_offset rs }
+fn last_of(records: &[RecordRef<'_>]) -> u64
+    ensures { (rs : List Record) → map plain records.now ≡ rs → result ≡ last_offset rs }
 {
     match records.last() {
-        Some(record) => record.0,
+        Some(record) => record.offset,
         None => 0,
     }
 }

@@ -1,56 +1,14 @@
-//! What ends a part's epoch: that it is given back or lost, or a crash.
+//! The calls that end a part's epoch: it is given back or lost, or all crash.
 
-ghost use Rattle.std.specs.Prelude.{◌≡◌, ◌<◌, ℕ, List, ◌∷◌, true, length, slice_index_or};
-ghost use Rattle.pc_model.specs.declared.event.Event.{Event};
-ghost use Rattle.pc_model.specs.declared.event.Event.TheVariants.{Crash, Lost, Revoke};
-ghost use Rattle.pc_model.specs.Given.{Given};
-ghost use Rattle.pc_model.specs.Epochs.{epoch_of, is_held};
-ghost use Rattle.pc_engine.specs.declared.part.PartState.{PartState};
+ghost use Rattle.std.specs.Prelude.{◌≡◌, true, length};
+ghost use Rattle.pc_model.specs.Epochs.{is_held};
 ghost use Rattle.pc_engine.specs.Effect.{failure_of};
-ghost use Rattle.pc_engine.specs.State.{AreReleased, Knows, MayCome};
 
 use crate::engine::{Committed, Engine};
 use crate::fault::EngineFault;
-use crate::part::PartState;
-use crate::state::State;
 use pc_model::Event;
 use pc_offset_client::ClientFault;
 use pc_world::Link;
-
-impl<'a> State<'a> {
-    /// A held part was given back or lost: its epoch is over, and nothing stays that was learnt of
-    /// it but the jobs that are out. Answers the epoch that ended. Takes no memory.
-    pub fn release(&mut self, part: u32) -> u64
-        requires { (given : Given) × (h : List Event) × Knows given h self.old
-            × (is_held h part ≡ true) }
-        ensures epoch { (given : Given) (h : List Event) → Knows given h self.old
-            → is_held h part ≡ true → result ≡ epoch_of h part }
-        ensures lost { (given : Given) (h : List Event) → Knows given h self.old
-            → is_held h part ≡ true → MayCome given (Lost part (epoch_of h part)) h
-            → Knows given (Lost part (epoch_of h part) ∷ h) self.new }
-        ensures revoked { (given : Given) (h : List Event) → Knows given h self.old
-            → is_held h part ≡ true → MayCome given (Revoke part (epoch_of h part)) h
-            → Knows given (Revoke part (epoch_of h part) ∷ h) self.new }
-    {
-        let state = &mut self.parts[part as usize];
-        let epoch = state.epoch;
-        state.epoch = epoch + 1;
-        state.held = None;
-        self.shards.drop_part(part);
-        epoch
-    }
-
-    /// A crash: every epoch is over, no part is held, and nothing stays that was learnt but the
-    /// jobs that are out. Takes no memory.
-    pub fn crash(&mut self)
-        requires { (given : Given) × (h : List Event) × Knows given h self.old }
-        ensures { (given : Given) (h : List Event) → Knows given h self.old
-            → MayCome given Crash h → Knows given (Crash ∷ h) self.new }
-    {
-        release_all(&mut self.parts);
-        self.shards.clear();
-    }
-}
 
 impl<'a, L: Link> Engine<'a, L> {
     ghost use Rattle.std.specs.Prelude.{◌≡◌, ◌≤◌, Ok, Err, Some, Result};
@@ -173,17 +131,5 @@ fn failure(stored: Result<Committed, EngineFault>) -> Result<Option<ClientFault>
         Ok(_) => Ok(None),
         Err(EngineFault::Client(fault)) => Ok(Some(fault)),
         Err(fault) => Err(fault),
-    }
-}
-
-/// Each part's epoch is over, and none is held.
-fn release_all(parts: &mut [PartState])
-    requires { (p : ℕ) (d : PartState) → p < length parts.old
-        → (slice_index_or parts.old p d).epoch < 4000001 }
-    ensures { AreReleased parts.old parts.new }
-{
-    for part in parts.iter_mut() {
-        part.epoch += 1;
-        part.held = None;
     }
 }

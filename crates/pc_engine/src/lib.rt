@@ -1,19 +1,14 @@
 //! The core: each call adds the lawful event, or answers the first refusal and adds nothing.
 //!
-//! The history in an engine is legal by its type. So far each record is its own ordering key, and
-//! none fails.
+//! The history in an engine is legal by its type.
 #![tactic(auto)]
 
-mod dispatch;
+mod clock;
 mod engine;
 mod epochs;
 mod fault;
-mod jobs;
-mod part;
 mod polls;
-mod results;
 mod settled;
-mod state;
 
 pub use engine::{Committed, Engine};
 pub use fault::EngineFault;

@@ -1,215 +1,29 @@
-//! Which records of a part are next, and what a poll of them changes.
+//! Whether pressure lets a part poll its next record.
 
-ghost use Rattle.std.specs.Prelude.{◌≡◌, ◌≤◌, ◌<◌, ◌+◌, ◌^◌, ◌++◌, ◌&&◌, ◌==◌, not, ℕ, List, [], ◌∷◌, Option, true, false, None, Some, IfOk, IfSome, OnOk, OnErr, length, map, filter, take, if◌then◌else◌, option_map, unwrap_or, slice_get, option_copied, nat_le, Result, Ok, Err};
-ghost use Rattle.pc_engine.specs.declared.fault.EngineFault.{EngineFault};
-ghost use Rattle.pc_engine.specs.declared.fault.EngineFault.TheVariants.{Pressed};
-ghost use Rattle.std.specs.List.{All};
-ghost use Rattle.std.specs.Option.{option_map_or};
+ghost use Rattle.std.specs.Prelude.{◌≡◌, ◌&&◌, not, ℕ, List, true, if◌then◌else◌, unwrap_or, nat_le, Ok, Err};
 ghost use Rattle.pc_model.specs.declared.event.Event.{Event};
-ghost use Rattle.pc_model.specs.declared.event.Event.TheVariants.{Poll};
-ghost use Rattle.pc_model.specs.Record.{Record};
 ghost use Rattle.pc_model.specs.Given.{Given};
-ghost use Rattle.pc_model.specs.BestMap.{is_pressed};
 ghost use Rattle.pc_model.specs.Epochs.{is_held};
-ghost use Rattle.pc_model.specs.Known.{high_of, unpolled_records};
+ghost use Rattle.pc_model.specs.Known.{high_of};
 ghost use Rattle.pc_model.specs.Pressure.{is_blocked, is_upto_high};
-ghost use Rattle.pc_engine.specs.Effect.{next_records};
-ghost use Rattle.pc_model.specs.Marks.{Mark};
-ghost use Rattle.pc_partition.specs.Window.{AreNext, RisesFrom, StandsFor, open_polled};
-ghost use Rattle.pc_shards.specs.Entries.{ChangesNothing, ChangesOnly, new_entries, of_part};
-ghost use Rattle.pc_engine.specs.Polls.{AreNextRecords, IsPolled, IsSameHeld, is_open_in, offset_and_key, plain_next};
-ghost use Rattle.pc_engine.specs.State.{Knows, MayCome};
+ghost use Rattle.pc_state.specs.State.{Knows};
+ghost use Rattle.pc_engine.specs.declared.fault.EngineFault.TheVariants.{Pressed};
 
 use crate::fault::EngineFault;
-use crate::part::HeldPart;
-use crate::state::State;
-use pc_broker_log::Polled;
-use pc_choice::pressed;
-use pc_model::Setup;
-use pc_model::limits::MAX_RECORDS;
-use pc_partition::PartitionState;
-use pc_shards::Shards;
-use std::alloc::{AllocError, Global};
+use pc_state::State;
 
-/// A record that is to be polled: its offset and its key.
-pub type NextRecord<'a> = (u64, Option<&'a [u8]>);
-
-impl HeldPart {
-    /// Whether the last commit since the assignment takes more than its share of the limit.
-    pub fn is_blocked(&self, setup: &Setup) -> bool
-        ensures { result ≡ option_map_or (λ size.
-            is_pressed size setup.now.settings.map_limit setup.now.settings.press_percent) self.now.size false }
-    {
-        match self.size {
-            Some(size) => pressed(size, setup.settings.map_limit, setup.settings.press_percent),
-            None => false,
-        }
-    }
-}
-
-impl<'a> State<'a> {
-    /// The offset of the first record of a held part that was not polled.
-    pub fn first_left(&self, part: u32) -> Option<u64>
-        ensures { (given : Given) (h : List Event) → Knows given h self.now
-            → is_held h part ≡ true
-            → result ≡ option_map (λ r. r.offset) (slice_get (unpolled_records given h part) 0) }
-    {
-        let held = self.held(part)?;
-        let record = self.logs.poll(part, held.next, 1)?.next()?;
-        Some(record.offset)
-    }
-
-    /// The greatest complete offset of a held part that is blocked.
-    pub fn pressing(&self, part: u32) -> Option<u64>
-        ensures { (given : Given) (h : List Event) → Knows given h self.now
-            → is_held h part ≡ true
-            → result ≡ (if is_blocked given h part then high_of given h part else None) }
-    {
-        let held = self.held(part)?;
-        if held.is_blocked(self.setup) {
-            held.window.high()
-        } else {
-            None
-        }
-    }
-
-    /// Whether a held part is free to poll its record at the offset. It is `Pressed` exactly where it
-    /// is blocked and the record is above its greatest complete offset.
-    pub fn unpressed(&self, part: u32, offset: u64) -> Result<(), EngineFault>
-        ensures { (given : Given) (h : List Event) → Knows given h self.now
-            → is_held h part ≡ true
-            → result ≡ (if is_blocked given h part && not (is_upto_high given h part offset)
-            then Err (Pressed (unwrap_or (high_of given h part) 0)) else Ok tt) }
-    {
-        match self.pressing(part) {
-            Some(high) => upto(high, offset),
-            None => Ok(()),
-        }
-    }
-
-    /// The next records of a held part, at most so many, under pressure none above its greatest
-    /// complete offset. The only error is want of memory.
-    pub fn next_records(
-        &self,
-        alloc: Global,
-        part: u32,
-        max: u32,
-    ) -> Result<Vec<NextRecord<'a>>, AllocError>
-        ensures next { IfOk result (λ records. (given : Given) (h : List Event)
-            → Knows given h self.now → is_held h part ≡ true → plain_next records.items
-            ≡ map offset_and_key (next_records given h part max)) }
-        ensures few { IfOk result (λ records. length records.items ≤ max) }
-    {
-        let Some(held) = self.held(part) else {
-            return Ok(Vec::new(alloc));
-        };
-        let upto = self.pressing(part).unwrap_or(u64::MAX);
-        match self.logs.known_upto(part, held.next, upto) {
-            Some(next) => first_of(alloc, next, max),
-            None => Ok(Vec::new(alloc)),
-        }
-    }
-
-    /// Polls these records of a held part, which are its next ones. The only error is want of
-    /// memory, after which the state is as before.
-    pub fn poll(
-        &mut self,
-        alloc: Global,
-        part: u32,
-        records: &[NextRecord<'a>],
-    ) -> Result<(), AllocError>
-        requires next { (given : Given) × (h : List Event) × Knows given h self.old
-            × (is_held h part ≡ true) × AreNextRecords given h part records.now }
-        requires few { length records.now ≤ MAX_RECORDS }
-        ensures polled { OnOk result ((given : Given) (h : List Event) (last : ℕ)
-            → Knows given h self.old → is_held h part ≡ true
-            → AreNextRecords given h part records.now
-            → MayCome given (Poll part (length records.now) last) h
-            → Knows given (Poll part (length records.now) last ∷ h) self.new) }
-        ensures stays { OnErr result ((given : Given) (h : List Event) → Knows given h self.old
-            → Knows given h self.new) }
-    {
-        let Some(held) = &mut self.parts[part as usize].held else {
-            unreachable!();
-        };
-        poll_held(alloc, held, &mut self.shards, part, records)
-    }
-}
-
-/// Polls these records of a held part: those that are open are added to the shards, and all to the
-/// window. The only error is want of memory, after which the same is known and added as before.
-fn poll_held<'a>(
-    alloc: Global,
-    held: &mut HeldPart,
-    shards: &mut Shards<'a>,
-    part: u32,
-    records: &[NextRecord<'a>],
-) -> Result<(), AllocError>
-    requires rises { RisesFrom held.old.window.window.polled_to (map (λ r. r.0) records.now) }
-    requires next { (begin n : ℕ) × (marks : List Mark)
-        × StandsFor held.old.window.window begin n marks
-        × AreNext n marks (map (λ r. r.0) records.now) }
-    requires few { open_polled held.old.window.window + length records.now < 2 ^ 32 }
-    requires above { All (λ r. All (λ e. e.offset < r.0) (of_part shards.old part)) records.now }
-    ensures held { OnOk result (IsPolled (map (λ r. r.0) records.now) held.old held.new) }
-    ensures added { OnOk result (of_part shards.new part ≡ of_part shards.old part
-        ++ new_entries (filter (λ r. is_open_in held.old.window.window r.0) records.now)) }
-    ensures others { OnOk result (ChangesOnly part shards.old shards.new) }
-    ensures same { OnErr result (IsSameHeld held.old held.new) }
-    ensures nothing { OnErr result (ChangesNothing shards.old shards.new) }
+/// Whether a held part is free to poll its record at the offset. It is `Pressed` exactly where it is
+/// blocked and the record is above its greatest complete offset.
+pub(crate) fn unpressed(state: &State<'_>, part: u32, offset: u64) -> Result<(), EngineFault>
+    ensures { (given : Given) (h : List Event) → Knows given h state.now
+        → is_held h part ≡ true
+        → result ≡ (if is_blocked given h part && not (is_upto_high given h part offset)
+        then Err (Pressed (unwrap_or (high_of given h part) 0)) else Ok tt) }
 {
-    let offsets = offsets_of(alloc, records)?;
-    let opened = open_records(alloc, &held.window, records)?;
-    held.window.reserve(records.len() as u32)?;
-    shards.add_all(part, &opened)?;
-    if held.window.polled(&offsets).is_err() {
-        unreachable!();
+    match state.pressing(part) {
+        Some(high) => upto(high, offset),
+        None => Ok(()),
     }
-    if let Some(last) = offsets.last() {
-        held.next = *last + 1;
-    }
-    Ok(())
-}
-
-/// The first of some records, at most so many, by their offsets and keys.
-fn first_of<'a>(
-    alloc: Global,
-    next: Polled<'a>,
-    max: u32,
-) -> Result<Vec<NextRecord<'a>>, AllocError>
-    ensures { IfOk result (λ records. plain_next records.items
-        ≡ map offset_and_key (take max next.entry)) }
-{
-    let mut records = Vec::new(alloc);
-    for record in next.take(max as usize) {
-        records.push((record.offset, record.key))?;
-    }
-    Ok(records)
-}
-
-/// The offsets of the records.
-fn offsets_of(alloc: Global, records: &[NextRecord<'_>]) -> Result<Vec<u64>, AllocError>
-    ensures { IfOk result (λ offsets. offsets.items ≡ map (λ r. r.0) records.now) }
-{
-    records.iter().map(|record| record.0).collect(alloc)
-}
-
-/// Those of the records that are incomplete or new.
-fn open_records<'a>(
-    alloc: Global,
-    window: &PartitionState,
-    records: &[NextRecord<'a>],
-) -> Result<Vec<NextRecord<'a>>, AllocError>
-    ensures { IfOk result (λ kept. kept.items
-        ≡ filter (λ r. is_open_in window.now.window r.0) records.now) }
-{
-    let mut kept = Vec::new(alloc);
-    for record in records {
-        if window.is_open(record.0) {
-            kept.push(*record)?;
-        }
-    }
-    Ok(kept)
 }
 
 /// Refuses an offset above the greatest complete one.

@@ -2,7 +2,8 @@
 use Rattle.std.proofs.Common.{ℕ, zero, suc, ◌<◌, List, [], ◌∷◌, ◌++◌, map, length, get_or, take, Option, ap, inl, inr, arith}
 use Rattle.std.specs.Borrow.{Bor}
 use Rattle.std.specs.List.{All}
-use Rattle.pc_shards.specs.Entries.{Entry, new_entries, new_entry}
+use Rattle.std.specs.Option.{option_copied}
+use Rattle.pc_shards.specs.Entries.{Entry, bare_record, new_entries, new_entry}
 use Rattle.pc_shards.specs.Rising.{In, Rises}
 use Rattle.pc_shards.proofs.Lists.{AllByRecursion-In, In-append, In-map, In-mapped}
 use Rattle.pc_shards.proofs.RisingLemmas.{In-get_or}
@@ -20,14 +21,15 @@ rises-take f (y ∷ xs) (suc j) d x r h (inr i) = rises-take f xs j d x r.1 (ome
 
 pub above-those-before : (es : List Entry) (rs : List (ℕ × Option (Bor (List ℕ)))) (j : ℕ)
     (r : ℕ × Option (Bor (List ℕ))) → Rises (map (λ r. r.0) rs)
-    → All (λ r. All (λ e. e.offset < r.0) es) rs → j < length rs
-    → All (λ e. e.offset < (get_or rs j r).0) (es ++ new_entries (take j rs))
+    → All (λ r. All (λ e. e.record.offset < r.0) es) rs → j < length rs
+    → All (λ e. e.record.offset < (get_or rs j r).0) (es ++ new_entries (take j rs))
 above-those-before es rs j r rises above h = λ k d lt.
     let e : Entry = get_or (es ++ new_entries (take j rs)) k d in
     elim (In-append e es (new_entries (take j rs)) (In-get_or (es ++ new_entries (take j rs)) k d
     lt)) [
-      | inl i ↦ All-In (λ (e : Entry). e.offset < (get_or rs j r).0) e es (above j r h) i
-      | inr i ↦ let m = In-mapped new_entry e (take j rs) i in
+      | inl i ↦ All-In (λ (e : Entry). e.record.offset < (get_or rs j r).0) e es (above j r h) i
+      | inr i ↦ let m = In-mapped (λ (r : ℕ × Option (Bor (List ℕ))).
+          new_entry (bare_record r.0 (option_copied r.1))) e (take j rs) i in
           let below = rises-take (λ (r : ℕ × Option (Bor (List ℕ))). r.0) rs j r m.0 rises h m.1 in
-          let at = ap (λ (e : Entry). e.offset) m.2 in omega (arith, below, at)
+          let at = ap (λ (e : Entry). e.record.offset) m.2 in omega (arith, below, at)
     ]

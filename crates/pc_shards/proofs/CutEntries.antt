@@ -16,14 +16,14 @@ pub take-front : {X : Type 0} (xs : List X) (x : X)
 take-front xs x = take_at xs (x ∷ []) (length (xs ++ x ∷ []) - 1)
     (let len = length-append xs (x ∷ []) in omega (arith, len))
 
-offset-In : (q : Entry) (es : List Entry) → In q es → In q.offset (offsets_of es)
-offset-In q es i = In-map (λ (y : Entry). y.offset) q es i
+offset-In : (q : Entry) (es : List Entry) → In q es → In q.record.offset (offsets_of es)
+offset-In q es i = In-map (λ (y : Entry). y.record.offset) q es i
 
 -- the entries before the last are below it
 pub last-above : (es : List Entry) (e : Entry) → Rises (offsets_of (es ++ e ∷ [])) → (q : Entry)
-    → In q es → q.offset < e.offset
+    → In q es → q.record.offset < e.record.offset
 last-above [] e r q i = elim i [ ]
-last-above (x ∷ es) e r q (inl same) = rw same (AllByRecursion-In (λ y. x.offset < y) e.offset
+last-above (x ∷ es) e r q (inl same) = rw same (AllByRecursion-In (λ y. x.record.offset < y) e.record.offset
     (offsets_of (es ++ e ∷ [])) r.0
     (offset-In e (es ++ e ∷ []) (In-append_right e es (e ∷ []) (inl refl))))
 last-above (x ∷ es) e r q (inr i) = last-above es e r.1 q i
@@ -32,25 +32,25 @@ rises-front : (es : List Entry) (e : Entry) → Rises (offsets_of (es ++ e ∷ [
     → Rises (offsets_of es)
 rises-front [] e r = tt
 rises-front (x ∷ es) e r = (
-  AllByRecursion-each (λ y. x.offset < y) (offsets_of es) (λ o i.
-      let m = In-mapped (λ (y : Entry). y.offset) o es i in
-      AllByRecursion-In (λ y. x.offset < y) o (offsets_of (es ++ e ∷ [])) r.0
+  AllByRecursion-each (λ y. x.record.offset < y) (offsets_of es) (λ o i.
+      let m = In-mapped (λ (y : Entry). y.record.offset) o es i in
+      AllByRecursion-In (λ y. x.record.offset < y) o (offsets_of (es ++ e ∷ [])) r.0
       (rw m.2 (offset-In m.0 (es ++ e ∷ []) (In-append_left m.0 es (e ∷ []) m.1)))),
   rises-front es e r.1,
 )
 
 module _ (order : Order) (p : ℕ) (es : List Entry) (e : Entry) (ready : List ℕ) (places : ℕ)
     (is : IsPart order p (es ++ e ∷ []) ready places) where
-  above : (q : Entry) → In q es → q.offset < e.offset
+  above : (q : Entry) → In q es → q.record.offset < e.record.offset
   above = last-above es e is.rises
 
-  pub part-front : IsPart order p es (but e.offset ready) places
+  pub part-front : IsPart order p es (but e.record.offset ready) places
   part-front = record {
     rises = rises-front es e is.rises;
     firsts = λ x i busy. first-pushed order p es e above x
         (is.firsts x (In-append_left x es (e ∷ []) i) busy);
-    ready_rises = Rises-filter (λ x. not (x == e.offset)) ready is.ready_rises;
-    sound = λ o i. let j = In-but o e.offset ready i in
+    ready_rises = Rises-filter (λ x. not (x == e.record.offset)) ready is.ready_rises;
+    sound = λ o i. let j = In-but o e.record.offset ready i in
         let r = is.sound o j.0 in
         elim (In-append r.entry es (e ∷ []) r.has) [
           | inl k ↦ record {
@@ -61,17 +61,17 @@ module _ (order : Order) (p : ℕ) (es : List Entry) (e : Entry) (ready : List �
             free = r.free;
           }
           | inr k ↦ elim k [
-            | inl at ↦ number-is_not o e.offset j.1 (sym r.at ∙ ap (λ (y : Entry). y.offset) at)
+            | inl at ↦ number-is_not o e.record.offset j.1 (sym r.at ∙ ap (λ (y : Entry). y.record.offset) at)
             | inr none ↦ elim none [ ]
           ]
         ];
-    whole = λ o r. but-In o e.offset ready (is.whole o (record {
+    whole = λ o r. but-In o e.record.offset ready (is.whole o (record {
       entry = r.entry;
       has = In-append_left r.entry es (e ∷ []) r.has;
       at = r.at;
       first = first-push order p es e above r.entry r.has r.first;
       free = r.free;
-    })) (number-other o e.offset (λ same. let lt = above r.entry r.has in
+    })) (number-other o e.record.offset (λ same. let lt = above r.entry r.has in
         let at = r.at in omega (arith, lt, at, same)));
     room = let room = is.room in omega (arith, room, length-push es e);
   }

@@ -4,7 +4,7 @@ use Rattle.std.specs.Option.{option_map_or}
 use Rattle.std.proofs.lemmas.Bool.{cases_lt}
 use Rattle.pc_model.specs.declared.choices.Order.{Order}
 use Rattle.pc_model.specs.Numbers.{least_of}
-use Rattle.pc_shards.specs.Entries.{Entry, is_first, is_first_offset, least_ready_of, marked, ready_offsets, with_busy}
+use Rattle.pc_shards.specs.Entries.{Entry, has_entry_at, is_first, is_first_offset, least_ready_of, marked, ready_offsets, with_busy}
 use Rattle.pc_shards.specs.Rising.{In}
 use Rattle.pc_shards.proofs.Lists.{In-map, and-both, list_any-In, number-same}
 use Rattle.pc_shards.proofs.EntriesLemmas.{In-ready, first-entry}
@@ -12,11 +12,11 @@ use Rattle.pc_shards.proofs.MarkedEntries.{first-marked, marked-offset}
 
 -- an entry that is the first of its key makes its offset one
 offset-first : (order : Order) (p : ℕ) (es : List Entry) (o : ℕ) (e : Entry) → In e es
-    → e.offset ≡ o
+    → e.record.offset ≡ o
     → is_first order p es e ≡ true → is_first_offset order p es o ≡ true
 offset-first order p es o e i at first = list_any-In (λ (e : Entry).
-    (e.offset == o) && is_first order p es e)
-    e es i (and-both (e.offset == o) (is_first order p es e) (number-same e.offset o at) first)
+    (e.record.offset == o) && is_first order p es e)
+    e es i (and-both (e.record.offset == o) (is_first order p es e) (number-same e.record.offset o at) first)
 
 least-In : (x : ℕ) (xs : List ℕ) → In (option_map_or (min x) (least_of xs) x) (x ∷ xs)
 least-In x [] = inl refl
@@ -38,6 +38,13 @@ pub least_ready-first_offset : (order : Order) (p : ℕ) (es : List Entry) (o : 
 least_ready-first_offset order p es o least =
     let r = In-ready order p es o (least_of-In o (ready_offsets order p es) least) in
     offset-first order p es o r.entry r.has r.at r.first
+
+-- so it is that of an entry
+pub first_offset-there : (order : Order) (p : ℕ) (es : List Entry) (o : ℕ)
+    → is_first_offset order p es o ≡ true → has_entry_at o es ≡ true
+first_offset-there order p es o first =
+    let e = first-entry order p es o first in
+    list_any-In (λ (x : Entry). x.record.offset == o) e.0 es e.1 (number-same e.0.record.offset o e.2)
 
 -- what is busy or not changes no first
 pub first_offset-with_busy : (order : Order) (p : ℕ) (es : List Entry) (u : ℕ) (b : Bool) (o : ℕ)

@@ -34,88 +34,88 @@ length-push (x ∷ es) e = ap suc (length-push es e)
 module _ (order : Order) (p : ℕ) (es : List Entry) where
   -- no entry of the first's key is below it
   pub first-low : (e : Entry) → is_first order p es e ≡ true → (q : Entry) → In q es
-      → key_of order p q ≡ key_of order p e → e.offset ≤ q.offset
-  first-low e first q i same = elim (cases_lt q.offset e.offset) [
+      → key_of order p q ≡ key_of order p e → e.record.offset ≤ q.record.offset
+  first-low e first q i same = elim (cases_lt q.record.offset e.record.offset) [
     | inl lt ↦ true-false (is_before order p q e)
-        (and-both (ltb q.offset e.offset) (same_key (key_of order p q) (key_of order p e))
-        (ltb-is q.offset e.offset lt) (same_key-is (key_of order p q) (key_of order p e) same))
+        (and-both (ltb q.record.offset e.record.offset) (same_key (key_of order p q) (key_of order p e))
+        (ltb-is q.record.offset e.record.offset lt) (same_key-is (key_of order p q) (key_of order p e) same))
         (not-true (is_before order p q e)
         (list_all-In (λ (x : Entry). not (is_before order p x e)) q es first i))
     | inr le ↦ le
   ]
 
   pub low-first : (e : Entry) → ((q : Entry) → In q es → key_of order p q ≡ key_of order p e
-      → e.offset ≤ q.offset) → is_first order p es e ≡ true
+      → e.record.offset ≤ q.record.offset) → is_first order p es e ≡ true
   low-first e low = list_all-each (λ (x : Entry). not (is_before order p x e)) es (λ q i.
       not-false (is_before order p q e) (elim (cases_Bool (is_before order p q e)) [
         | inl t ↦ let le = low q i (same_key-true (key_of order p q) (key_of order p e)
-            (and-right (ltb q.offset e.offset) (same_key (key_of order p q)
+            (and-right (ltb q.record.offset e.record.offset) (same_key (key_of order p q)
             (key_of order p e)) t)) in
-            true-false (ltb q.offset e.offset)
-            (and-left (ltb q.offset e.offset) (same_key (key_of order p q) (key_of order p e)) t)
-            (ltb-not q.offset e.offset le)
+            true-false (ltb q.record.offset e.record.offset)
+            (and-left (ltb q.record.offset e.record.offset) (same_key (key_of order p q) (key_of order p e)) t)
+            (ltb-not q.record.offset e.record.offset le)
         | inr f ↦ f
       ]))
 
   -- the entry of an offset that is the first of its key
   pub first-entry : (o : ℕ) → is_first_offset order p es o ≡ true
-      → (e : Entry) × In e es × (e.offset ≡ o) × (is_first order p es e ≡ true)
-  first-entry o is = let m = In-list_any (λ (e : Entry). (e.offset == o) && is_first order p es e)
+      → (e : Entry) × In e es × (e.record.offset ≡ o) × (is_first order p es e ≡ true)
+  first-entry o is = let m = In-list_any (λ (e : Entry). (e.record.offset == o) && is_first order p es e)
       es is in (
         m.0,
         m.1,
-        number-is m.0.offset o (and-left (m.0.offset == o) (is_first order p es m.0) m.2),
-        and-right (m.0.offset == o) (is_first order p es m.0) m.2,
+        number-is m.0.record.offset o (and-left (m.0.record.offset == o) (is_first order p es m.0) m.2),
+        and-right (m.0.record.offset == o) (is_first order p es m.0) m.2,
       )
 
   -- ---- the queue of a key
 
   pub queue-In : (k : OrderingKey) (e : Entry) → In e es → k ≡ key_of order p e
-      → In e.offset (queue order p es k)
-  queue-In k e i same = In-map (λ (x : Entry). x.offset) e (filter (λ x. same_key k
+      → In e.record.offset (queue order p es k)
+  queue-In k e i same = In-map (λ (x : Entry). x.record.offset) e (filter (λ x. same_key k
       (key_of order p x)) es)
       (In-filter (λ (x : Entry). same_key k (key_of order p x)) e es i (same_key-is k
       (key_of order p e) same))
 
   pub In-queue : (k : OrderingKey) (o : ℕ) → In o (queue order p es k)
-      → (e : Entry) × In e es × (o ≡ e.offset) × (k ≡ key_of order p e)
-  In-queue k o i = let m = In-mapped (λ (x : Entry). x.offset) o (filter (λ x. same_key k
+      → (e : Entry) × In e es × (o ≡ e.record.offset) × (k ≡ key_of order p e)
+  In-queue k o i = let m = In-mapped (λ (x : Entry). x.record.offset) o (filter (λ x. same_key k
       (key_of order p x)) es) i in
       let f = In-filtered (λ (x : Entry). same_key k (key_of order p x)) m.0 es m.1 in
       (m.0, f.0, m.2, same_key-true k (key_of order p m.0) f.1)
 
   pub queue-rises : (k : OrderingKey) → Rises (offsets_of es) → Rises (queue order p es k)
-  queue-rises k r = Rises-map-filter (λ (x : Entry). x.offset) (λ x. same_key k
+  queue-rises k r = Rises-map-filter (λ (x : Entry). x.record.offset) (λ x. same_key k
       (key_of order p x)) es r
 
   -- the first of a key is the first of its queue
   pub first-head : (e : Entry) → Rises (offsets_of es) → In e es → is_first order p es e ≡ true
-      → slice_get (queue order p es (key_of order p e)) 0 ≡ Some e.offset
-  first-head e r i first = head-is e.offset (queue order p es (key_of order p e))
+      → slice_get (queue order p es (key_of order p e)) 0 ≡ Some e.record.offset
+  first-head e r i first = head-is e.record.offset (queue order p es (key_of order p e))
       (queue-rises (key_of order p e) r) (queue-In (key_of order p e) e i refl) (λ o j.
       let q = In-queue (key_of order p e) o j in
       let le = first-low e first q.0 q.1 (sym q.3) in
       let is = q.2 in omega (arith, le, is))
 
   pub head-first : (e : Entry) → Rises (offsets_of es)
-      → slice_get (queue order p es (key_of order p e)) 0 ≡ Some e.offset
+      → slice_get (queue order p es (key_of order p e)) 0 ≡ Some e.record.offset
       → is_first order p es e ≡ true
-  head-first e r head = low-first e (λ q i same. head-low e.offset (queue order p es
+  head-first e r head = low-first e (λ q i same. head-low e.record.offset (queue order p es
       (key_of order p e))
-      (queue-rises (key_of order p e) r) head q.offset (queue-In (key_of order p e) q i (sym same)))
+      (queue-rises (key_of order p e) r) head q.record.offset (queue-In (key_of order p e) q i (sym same)))
 
   -- ---- what is ready
 
   pub ready-In : (o : ℕ) → IsReady order p es o → In o (ready_offsets order p es)
   ready-In o is = subst (λ u. In u (ready_offsets order p es)) is.at
-      (In-map (λ (x : Entry). x.offset) is.entry (filter
+      (In-map (λ (x : Entry). x.record.offset) is.entry (filter
       (λ x. is_first order p es x && not x.is_busy) es)
       (In-filter (λ (x : Entry). is_first order p es x && not x.is_busy) is.entry es is.has
       (and-both (is_first order p es is.entry) (not is.entry.is_busy) is.first
       (not-false is.entry.is_busy is.free))))
 
   pub In-ready : (o : ℕ) → In o (ready_offsets order p es) → IsReady order p es o
-  In-ready o i = let m = In-mapped (λ (x : Entry). x.offset) o
+  In-ready o i = let m = In-mapped (λ (x : Entry). x.record.offset) o
       (filter (λ x. is_first order p es x && not x.is_busy) es) i in
       let f = In-filtered (λ (x : Entry). is_first order p es x && not x.is_busy) m.0 es m.1 in
       record {
@@ -141,8 +141,8 @@ pub ready-few : (order : Order) (p : ℕ) (es : List Entry) (ready : List ℕ) (
 ready-few order p es ready places is =
     let few = length-among ready (offsets_of es) is.ready_rises is.rises
     (λ u i. let r = is.sound u i in
-    rw (← r.at) (In-map (λ (y : Entry). y.offset) r.entry es r.has)) in
-    let len = length-map es (λ (y : Entry). y.offset) in omega (arith, few, len)
+    rw (← r.at) (In-map (λ (y : Entry). y.record.offset) r.entry es r.has)) in
+    let len = length-map es (λ (y : Entry). y.record.offset) in omega (arith, few, len)
 
 -- what is first among entries is first among some of them
 pub first-some : (order : Order) (p : ℕ) (es fs : List Entry) (e : Entry) → ((q : Entry) → In q fs

@@ -4,6 +4,7 @@ pub mod ShardKeyLemmas
 pub mod QueuesLemmas
 pub mod PartLemmas
 pub mod EntriesLemmas
+pub mod ChangedEntries
 pub mod AddedEntries
 pub mod MarkedEntries
 pub mod TakenEntries

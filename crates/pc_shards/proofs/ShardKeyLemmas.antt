@@ -1,11 +1,15 @@
 -- Ordering keys, and those with lent bytes.
 use Rattle.std.proofs.Common.{◌≡◌, ℕ, true, ◌==◌, List, Option, Some, None, refl, ap, sym, subst, ◌∙◌}
 use Rattle.std.proofs.lemmas.Slice.Eq.{bytes_eq-Decides}
-use Rattle.pc_model.specs.Next.{OrderingKey, same_key, same_bytes}
+use Rattle.pc_model.specs.declared.choices.Order.{Order}
+use Rattle.pc_model.specs.declared.choices.Order.TheVariants.{None as NoOrder, Partition, Key as ByKey}
+use Rattle.pc_model.specs.Record.{Record as PlainRecord}
+use Rattle.pc_model.specs.Next.{OrderingKey, ordering_key, same_key, same_bytes}
 use Rattle.pc_model.specs.Next.OrderingKey.{OfRecord, OfPart, OfKey}
 use Rattle.pc_shards.specs.declared.shard_key.ShardKey.{ShardKey}
 use Rattle.pc_shards.specs.declared.shard_key.ShardKey.TheVariants.{Record, Part, Key}
 use Rattle.pc_shards.specs.contracts.shard_key.ShardKeyPartialEq.TheImpl as key_eq
+use Rattle.pc_shards.specs.Entries.{bare_record}
 use Rattle.pc_shards.specs.ShardKey.{is_same, part_of, plain_key}
 use Rattle.pc_shards.proofs.Lists.{and-left, and-right, number-is, number-same, same_test}
 
@@ -45,6 +49,14 @@ pub same_key-sym : (a b : OrderingKey) → same_key a b ≡ same_key b a
 same_key-sym a b = same_test (same_key a b) (same_key b a)
     (λ e. same_key-is b a (sym (same_key-true a b e)))
     (λ e. same_key-is a b (sym (same_key-true b a e)))
+
+-- the key goes by the offset and the key's bytes alone
+pub bare-key : (order : Order) (p : ℕ) (r : PlainRecord) (o : ℕ) (key : Option (List ℕ))
+    → r.offset ≡ o → r.key ≡ key
+    → ordering_key order p (bare_record o key) ≡ ordering_key order p r
+bare-key NoOrder p r o key at same = ap (λ (u : ℕ). OfRecord p u) (sym at)
+bare-key Partition p r o key at same = refl
+bare-key ByKey p r o key at same = ap (λ (k : Option (List ℕ)). OfKey p k) (sym same)
 
 -- ---- keys with lent bytes
 

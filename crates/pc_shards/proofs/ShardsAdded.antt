@@ -6,19 +6,21 @@ use Rattle.std.proofs.lemmas.Bool.{cases_Bool, cases_lt}
 use Rattle.std.proofs.lemmas.List.{length-map}
 use Rattle.std.proofs.lemmas.Option.{slice_get_read}
 use Rattle.pc_model.specs.declared.choices.Order.{Order}
-use Rattle.pc_model.specs.Next.{same_key}
+use Rattle.pc_model.specs.Next.{ordering_key, same_key}
+use Rattle.pc_batch.specs.declared.record.RecordRef.{RecordRef}
+use Rattle.pc_batch.specs.Record.{plain as plain_record}
 use Rattle.pc_shards.specs.declared.part.EntryRef.{EntryRef}
 use Rattle.pc_shards.specs.declared.part.Part.{Part}
 use Rattle.pc_shards.specs.declared.queues.Queues.{Queues}
 use Rattle.pc_shards.specs.declared.shard_key.ShardKey.{ShardKey}
-use Rattle.pc_shards.specs.Entries.{ChangesOnly, Entry, key_of, of_part}
+use Rattle.pc_shards.specs.Entries.{ChangesOnly, Entry, bare_record, key_of, new_entry, of_part}
 use Rattle.pc_shards.specs.Part.{IsPart, plain, plain_entries, queue}
 use Rattle.pc_shards.specs.Queues.{queue_of}
 use Rattle.pc_shards.specs.Rising.{In}
 use Rattle.pc_shards.specs.ShardKey.{is_same, part_of, plain_key}
 use Rattle.pc_shards.specs.Shards.{HasRoomAt, IsShards, KeepsParts, entries_at}
 use Rattle.pc_shards.proofs.Lists.{number-is, number-is_not}
-use Rattle.pc_shards.proofs.ShardKeyLemmas.{part_of-same, same_key-is, same_key-sym, same_key-true}
+use Rattle.pc_shards.proofs.ShardKeyLemmas.{bare-key, part_of-same, same_key-is, same_key-sym, same_key-true}
 use Rattle.pc_shards.proofs.AddedEntries.{added-behind, added-first, queue-push}
 use Rattle.pc_shards.proofs.EntriesLemmas.{ready-few}
 use Rattle.pc_shards.proofs.ShardsLemmas.{IsPartAt, changes-set, entries_in, of-all, queue_of-same, shards-kept, shards-set, view, view-set}
@@ -43,7 +45,11 @@ pub plain-push : (es : List EntryRef) (e : EntryRef)
 plain-push [] e = refl
 plain-push (x ∷ es) e = ap (λ xs. plain x ∷ xs) (plain-push es e)
 
-module _ (order : Order) (queues : Queues) (before parts : List Part) (i o : ℕ) (s : Part)
+-- the entry of a lent record that did not fail and is not busy
+abbrev pub lent : RecordRef → EntryRef
+lent r = record { «record» = r; failures = 0; is_busy = false }
+
+module _ (order : Order) (queues : Queues) (before parts : List Part) (i : ℕ) (s : Part)
     (was : IsShards order queues before) (kept : KeepsParts before parts) (made : HasRoomAt i parts)
     (at : s ≡ get_or parts i s) where
   own-part : slice_get parts i ≡ Some s
@@ -72,23 +78,16 @@ module _ (order : Order) (queues : Queues) (before parts : List Part) (i o : ℕ
       let all = s.entries.ok.0 in
       let some = s.ready.ok.0 in omega (arith, few, count, room, all, some)
 
-  module _ (bytes : Option (Bor (List ℕ))) (t : Part)
-      (entries : t.entries.items ≡ s.entries.items ++ record {
-        offset = o;
-        key = bytes;
-        is_busy =
-            false;
-      } ∷ []) where
+  module _ (added : RecordRef) (t : Part)
+      (entries : t.entries.items ≡ s.entries.items ++ lent added ∷ []) where
     new-entries : plain_entries t.entries.items ≡ plain_entries s.entries.items
-        ++ record { offset = o; key = option_copied bytes; is_busy = false } ∷ []
-    new-entries = ap plain_entries entries ∙ plain-push s.entries.items
-        (record { offset = o; key = bytes; is_busy = false })
+        ++ new_entry (plain_record added) ∷ []
+    new-entries = ap plain_entries entries ∙ plain-push s.entries.items (lent added)
 
     pub added-view : of_part (view order (set parts i t)) i ≡ of_part (view order before) i
-        ++ record { offset = o; key = option_copied bytes; is_busy = false } ∷ []
+        ++ new_entry (plain_record added) ∷ []
     added-view = view-set order parts i t made.within ∙ new-entries
-        ∙ ap (λ es. es ++ record { offset = o; key = option_copied bytes; is_busy = false } ∷ [])
-        (sym own-view)
+        ∙ ap (λ es. es ++ new_entry (plain_record added) ∷ []) (sym own-view)
 
     pub added-others : ChangesOnly i (view order before) (view order (set parts i t))
     added-others = record {
@@ -99,29 +98,29 @@ module _ (order : Order) (queues : Queues) (before parts : List Part) (i o : ℕ
     }
 
     module _ (more : Queues) (shard : ShardKey) (first : Bool)
-        (above : All (λ e. e.offset < o) (of_part (view order before) i))
-        (ready : t.ready.items ≡ cond first (s.ready.items ++ o ∷ []) s.ready.items)
+        (above : All (λ e. e.record.offset < added.offset) (of_part (view order before) i))
+        (ready : t.ready.items ≡ cond first (s.ready.items ++ added.offset ∷ []) s.ready.items)
         (room : vec_capacity t.ready ≡ vec_capacity s.ready)
-        (of_shard : plain_key shard ≡ key_of order i (record {
-          offset = o;
-          key = option_copied
-              bytes;
-          is_busy = false;
-        }))
+        (bare : plain_key shard
+        ≡ ordering_key order i (bare_record added.offset (option_copied added.key)))
         (in_part : part_of shard ≡ i)
         (is_first : first ≡ (length (queue_of queues shard) == 0))
-        (pushed : queue_of more shard ≡ queue_of queues shard ++ o ∷ [])
+        (pushed : queue_of more shard ≡ queue_of queues shard ++ added.offset ∷ [])
         (others : (k : ShardKey) → is_same shard k ≡ false → queue_of more k ≡ queue_of queues k)
       where
         abbrev entry : Entry
-        entry = record { offset = o; key = option_copied bytes; is_busy = false }
+        entry = new_entry (plain_record added)
+
+        of_shard : plain_key shard ≡ key_of order i entry
+        of_shard = bare ∙ bare-key order i (plain_record added) added.offset
+            (option_copied added.key) refl refl
 
         abbrev es : List Entry
         es = plain_entries s.entries.items
 
-        below : (q : Entry) → In q es → q.offset < entry.offset
-        below q j = All-In (λ e. e.offset < o) q es (subst (λ xs. All
-            (λ e. e.offset < o) xs) own-view above) j
+        below : (q : Entry) → In q es → q.record.offset < entry.record.offset
+        below q j = All-In (λ e. e.record.offset < added.offset) q es (subst (λ xs. All
+            (λ e. e.record.offset < added.offset) xs) own-view above) j
 
         queued-now : (k : ShardKey) → part_of k ≡ i → queue_of queues k ≡ queue order i es
             (plain_key
@@ -142,14 +141,14 @@ module _ (order : Order) (queues : Queues) (before parts : List Part) (i o : ℕ
           | inl own ↦ let keys : plain_key shard ≡ plain_key k = same_key-true (plain_key shard)
               (plain_key k) own in
               queue_of-same more k shard (sym keys) ∙ pushed
-              ∙ ap (λ (xs : List ℕ). xs ++ o ∷ []) (queue_of-same queues shard k keys
+              ∙ ap (λ (xs : List ℕ). xs ++ added.offset ∷ []) (queue_of-same queues shard k keys
               ∙ queued-now k same)
               ∙ sym (queue-push order i es entry below (plain_key k)
-              ∙ ap (λ b. queue order i es (plain_key k) ++ cond b (o ∷ []) [])
+              ∙ ap (λ b. queue order i es (plain_key k) ++ cond b (added.offset ∷ []) [])
               (same_key-is (plain_key k) (key_of order i entry) (sym keys ∙ of_shard)))
           | inr other ↦ others k other ∙ queued-now k same
               ∙ sym (queue-push order i es entry below (plain_key k)
-              ∙ ap (λ b. queue order i es (plain_key k) ++ cond b (o ∷ []) [])
+              ∙ ap (λ b. queue order i es (plain_key k) ++ cond b (added.offset ∷ []) [])
               (same_key-sym (plain_key k) (key_of order i entry)
               ∙ ap (λ l. same_key l (plain_key k)) (sym of_shard) ∙ other)
               ∙ append-nil (queue order i es (plain_key k)))
@@ -175,14 +174,14 @@ module _ (order : Order) (queues : Queues) (before parts : List Part) (i o : ℕ
             (elim (cases_Bool first) [
               | inl alone ↦ subst (λ os. IsPart order i (es ++ entry ∷ []) os
                   (vec_capacity s.ready))
-                  (sym (ready ∙ ap (λ b. cond b (s.ready.items ++ o ∷ []) s.ready.items) alone))
+                  (sym (ready ∙ ap (λ b. cond b (s.ready.items ++ added.offset ∷ []) s.ready.items) alone))
                   (added-first order i es entry below s.ready.items (vec_capacity s.ready)
                   (vec_capacity s.ready)
                   own-state refl (queued-length ∙ number-is (length (queue_of queues shard)) 0 (sym
                   is_first ∙ alone)) fits)
               | inr behind ↦ subst (λ os. IsPart order i (es ++ entry ∷ []) os
                   (vec_capacity s.ready))
-                  (sym (ready ∙ ap (λ b. cond b (s.ready.items ++ o ∷ []) s.ready.items) behind))
+                  (sym (ready ∙ ap (λ b. cond b (s.ready.items ++ added.offset ∷ []) s.ready.items) behind))
                   (added-behind order i es entry below s.ready.items (vec_capacity s.ready)
                   (vec_capacity s.ready)
                   own-state refl (rw queued-length (some-number (length (queue_of queues shard))

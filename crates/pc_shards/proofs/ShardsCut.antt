@@ -4,12 +4,12 @@ use Rattle.std.specs.Option.{option_copied}
 use Rattle.std.proofs.lemmas.Bool.{cases_Bool, cases_lt}
 use Rattle.std.proofs.lemmas.Option.{slice_get_past, slice_get_read}
 use Rattle.pc_model.specs.declared.choices.Order.{Order}
-use Rattle.pc_model.specs.Next.{same_key}
+use Rattle.pc_model.specs.Next.{ordering_key, same_key}
 use Rattle.pc_shards.specs.declared.part.EntryRef.{EntryRef}
 use Rattle.pc_shards.specs.declared.part.Part.{Part}
 use Rattle.pc_shards.specs.declared.queues.Queues.{Queues}
 use Rattle.pc_shards.specs.declared.shard_key.ShardKey.{ShardKey}
-use Rattle.pc_shards.specs.Entries.{Entry, key_of, of_part}
+use Rattle.pc_shards.specs.Entries.{Entry, bare_record, key_of, of_part}
 use Rattle.pc_shards.specs.Part.{IsPart, plain, plain_entries, queue}
 use Rattle.pc_shards.specs.Queues.{queue_of}
 use Rattle.pc_shards.specs.Rising.{Rises, but}
@@ -18,7 +18,7 @@ use Rattle.pc_shards.specs.Shards.{IsShards, entries_at}
 use Rattle.pc_shards.proofs.AddedEntries.{queue-push}
 use Rattle.pc_shards.proofs.CutEntries.{last-above, part-front, take-front}
 use Rattle.pc_shards.proofs.Lists.{number-is_not}
-use Rattle.pc_shards.proofs.ShardKeyLemmas.{part_of-same, same_key-is, same_key-sym, same_key-true}
+use Rattle.pc_shards.proofs.ShardKeyLemmas.{bare-key, part_of-same, same_key-is, same_key-sym, same_key-true}
 use Rattle.pc_shards.proofs.ShardsAdded.{append-nil, plain-push}
 use Rattle.pc_shards.proofs.ShardsLemmas.{IsPartAt, entries_in, of-all, queue_of-same, shards-set, view, view-set}
 
@@ -66,7 +66,7 @@ module _ (order : Order) (queues : Queues) (parts : List Part) (i : ℕ) (s : Pa
 
     queued-now : (k : ShardKey) → part_of k ≡ i
         → queue_of queues k ≡ queue order i es (plain_key k)
-        ++ cond (same_key (plain_key k) (key_of order i e)) (e.offset ∷ []) []
+        ++ cond (same_key (plain_key k) (key_of order i e)) (e.record.offset ∷ []) []
     queued-now k same = is.queued k
         ∙ ap (λ q. queue order q (entries_at parts q) (plain_key k)) same
         ∙ ap (λ (u : Option Part). queue order i (entries_in u) (plain_key k)) own
@@ -74,24 +74,25 @@ module _ (order : Order) (queues : Queues) (parts : List Part) (i : ℕ) (s : Pa
         ∙ queue-push order i es e (last-above es e state.rises) (plain_key k)
 
     module _ (more : Queues) (shard : ShardKey)
-        (ready : t.ready.items ≡ but last.offset s.ready.items)
+        (ready : t.ready.items ≡ but last.record.offset s.ready.items)
         (room : vec_capacity t.ready ≡ vec_capacity s.ready)
-        (of_shard : plain_key shard ≡ key_of order i (record {
-          offset = last.offset;
-          key = option_copied last.key;
-          is_busy = false;
-        }))
+        (bare : plain_key shard ≡ ordering_key order i
+        (bare_record last.record.offset (option_copied last.record.key)))
         (in_part : part_of shard ≡ i)
         (popped : queue_of more shard
         ≡ take (length (queue_of queues shard) - 1) (queue_of queues shard))
         (others : (k : ShardKey) → is_same shard k ≡ false → queue_of more k ≡ queue_of queues k)
       where
+        of_shard : plain_key shard ≡ key_of order i e
+        of_shard = bare ∙ bare-key order i e.record last.record.offset
+            (option_copied last.record.key) refl refl
+
         queued-own : queue_of more shard ≡ queue order i es (plain_key shard)
         queued-own = popped
             ∙ ap (λ (xs : List ℕ). take (length xs - 1) xs) (queued-now shard in_part
-            ∙ ap (λ b. queue order i es (plain_key shard) ++ cond b (e.offset ∷ []) [])
+            ∙ ap (λ b. queue order i es (plain_key shard) ++ cond b (e.record.offset ∷ []) [])
             (same_key-is (plain_key shard) (key_of order i e) of_shard))
-            ∙ take-front (queue order i es (plain_key shard)) e.offset
+            ∙ take-front (queue order i es (plain_key shard)) e.record.offset
 
         queued-front : (k : ShardKey) → part_of k ≡ i
             → queue_of more k ≡ queue order i es (plain_key k)
@@ -100,7 +101,7 @@ module _ (order : Order) (queues : Queues) (parts : List Part) (i : ℕ) (s : Pa
               (plain_key k) one in
               queue_of-same more k shard (sym keys) ∙ queued-own ∙ ap (queue order i es) keys
           | inr other ↦ others k other ∙ queued-now k same
-              ∙ ap (λ b. queue order i es (plain_key k) ++ cond b (e.offset ∷ []) [])
+              ∙ ap (λ b. queue order i es (plain_key k) ++ cond b (e.record.offset ∷ []) [])
               (same_key-sym (plain_key k) (key_of order i e)
               ∙ ap (λ l. same_key l (plain_key k)) (sym of_shard) ∙ other)
               ∙ append-nil (queue order i es (plain_key k))
@@ -115,7 +116,7 @@ module _ (order : Order) (queues : Queues) (parts : List Part) (i : ℕ) (s : Pa
 
         new-state : IsPart order i es t.ready.items (vec_capacity t.ready)
         new-state = subst (λ os. IsPart order i es os (vec_capacity t.ready)) (sym ready)
-            (subst (λ n. IsPart order i es (but e.offset s.ready.items) n) (sym room)
+            (subst (λ n. IsPart order i es (but e.record.offset s.ready.items) n) (sym room)
             (part-front order i es e s.ready.items (vec_capacity s.ready) state))
 
         pub shards-popped : IsShards order more (set parts i t)

@@ -2,11 +2,11 @@
 use Rattle.std.proofs.Common.{◌≡◌, ℕ, ◌<◌, true, false, not, ◌==◌, List, length, drop, set, slice_get, Option, Some, None, vec_capacity, ap, sym, subst, inl, inr, ◌∙◌, arith}
 use Rattle.std.proofs.lemmas.Bool.{cases_Bool}
 use Rattle.pc_model.specs.declared.choices.Order.{Order}
-use Rattle.pc_model.specs.Next.{same_key}
+use Rattle.pc_model.specs.Next.{ordering_key, same_key}
 use Rattle.pc_shards.specs.declared.part.Part.{Part}
 use Rattle.pc_shards.specs.declared.queues.Queues.{Queues}
 use Rattle.pc_shards.specs.declared.shard_key.ShardKey.{ShardKey}
-use Rattle.pc_shards.specs.Entries.{Entry, is_first, key_of, without}
+use Rattle.pc_shards.specs.Entries.{Entry, bare_record, is_first, key_of, without}
 use Rattle.pc_shards.specs.Part.{EachAt, plain_entries, queue}
 use Rattle.pc_shards.specs.Queues.{queue_of}
 use Rattle.pc_shards.specs.Rising.{In, Rises, but, put}
@@ -14,10 +14,10 @@ use Rattle.pc_shards.specs.ShardKey.{is_same, part_of, plain_key}
 use Rattle.pc_shards.specs.Shards.{IsShards, entries_at}
 use Rattle.pc_shards.proofs.Lists.{number-is_not}
 use Rattle.pc_shards.proofs.RisingLemmas.{Rises-filter}
-use Rattle.pc_shards.proofs.ShardKeyLemmas.{part_of-same, same_key-true}
+use Rattle.pc_shards.proofs.ShardKeyLemmas.{bare-key, part_of-same, same_key-true}
 use Rattle.pc_shards.proofs.TakenEntries.{done-last, done-next, next-place, queue-done, queue-others}
 use Rattle.pc_shards.proofs.EntriesLemmas.{first-entry}
-use Rattle.pc_shards.proofs.ShardsLemmas.{IsFound, entries_in, key_of-same, part-like, queue_of-same, shards-set}
+use Rattle.pc_shards.proofs.ShardsLemmas.{IsFound, entries_in, part-like, queue_of-same, shards-set}
 
 module _ (order : Order) (queues more : Queues) (parts : List Part) (i o : ℕ) (s t : Part)
     (is : IsShards order queues parts) (f : IsFound order parts i o s)
@@ -25,23 +25,18 @@ module _ (order : Order) (queues more : Queues) (parts : List Part) (i o : ℕ) 
     (entries : plain_entries t.entries.items ≡ without o (plain_entries s.entries.items))
     (ready : t.ready.items ≡ but o s.ready.items) (room : vec_capacity t.ready
     ≡ vec_capacity s.ready)
-    (key : EachAt o (plain_entries s.entries.items) (λ e. e.key ≡ bytes))
-    (of_shard : plain_key shard ≡ key_of order i (record {
-      offset = o;
-      key = bytes;
-      is_busy = false;
-    }))
+    (key : EachAt o (plain_entries s.entries.items) (λ e. e.record.key ≡ bytes))
+    (of_shard : plain_key shard ≡ ordering_key order i (bare_record o bytes))
     (in_part : part_of shard ≡ i)
     (popped : queue_of more shard ≡ drop 1 (queue_of queues shard))
     (others : (k : ShardKey) → is_same shard k ≡ false → queue_of more k ≡ queue_of queues k) where
-  first_one : (e : Entry) × In e (plain_entries s.entries.items) × (e.offset ≡ o)
+  first_one : (e : Entry) × In e (plain_entries s.entries.items) × (e.record.offset ≡ o)
       × (is_first order i (plain_entries s.entries.items) e ≡ true)
   first_one = first-entry order i (plain_entries s.entries.items) o f.first
 
   own-key : plain_key shard ≡ key_of order i first_one.0
-  own-key = of_shard ∙ sym (key_of-same order i first_one.0
-      (record { offset = o; key = bytes; is_busy = false })
-      first_one.2 (key first_one.0 first_one.1 first_one.2))
+  own-key = of_shard ∙ bare-key order i first_one.0.record o bytes first_one.2
+      (key first_one.0 first_one.1 first_one.2)
 
   queued-before : (k : ShardKey) → part_of k ≡ i
       → queue_of queues k ≡ queue order i (plain_entries s.entries.items) (plain_key k)
@@ -79,7 +74,7 @@ module _ (order : Order) (queues more : Queues) (parts : List Part) (i o : ℕ) 
   -- of the last of a key
   pub shards-last : None ≡ slice_get (queue_of more shard) 0 → IsShards order more (set parts i t)
   shards-last none = shards-set order queues more parts i t f.within is
-      (part-like order queues parts i o s t is f (without o (plain_entries s.entries.items))
+      (part-like order i s t (without o (plain_entries s.entries.items))
       (but o s.ready.items)
       entries ready room (done-last order i (plain_entries s.entries.items) s.ready.items
       (vec_capacity s.ready) o f.part
@@ -111,7 +106,7 @@ module _ (order : Order) (queues more : Queues) (parts : List Part) (i o : ℕ) 
         let of_u : plain_entries u.entries.items ≡ without o (plain_entries s.entries.items) =
         ap (λ v. plain_entries v.items) same ∙ entries in
         shards-set order queues more parts i u f.within is
-        (part-like order queues parts i o s u is f (without o (plain_entries s.entries.items))
+        (part-like order i s u (without o (plain_entries s.entries.items))
         (put n (but o s.ready.items)) of_u (offsets ∙ ap (put n) ready) (places ∙ room)
         (done-next order i (plain_entries s.entries.items) s.ready.items (vec_capacity s.ready) o
         f.part first_one.0 first_one.1 first_one.2 first_one.3 n own-head))

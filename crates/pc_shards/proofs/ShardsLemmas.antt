@@ -1,5 +1,5 @@
 -- The parts and the queues, when one part changes.
-use Rattle.std.proofs.Common.{◌≡◌, ◌⊎◌, ℕ, zero, suc, ◌<◌, ◌≤◌, Bool, true, false, ◌==◌, List, [], ◌∷◌, length, get_or, set, slice_get, Option, Some, vec_capacity, refl, ap, sym, subst, inl, inr, ◌∙◌, arith}
+use Rattle.std.proofs.Common.{◌≡◌, ◌⊎◌, ℕ, ◌+◌, cond, zero, suc, ◌<◌, ◌≤◌, Bool, true, false, ◌&&◌, ◌==◌, List, [], ◌∷◌, length, get_or, set, slice_get, Option, Some, vec_capacity, refl, ap, sym, subst, inl, inr, ◌∙◌, arith}
 use Rattle.std.specs.Option.{option_map_or}
 use Rattle.std.proofs.lemmas.Bool.{cases_Bool, cases_lt}
 use Rattle.std.proofs.lemmas.Option.{slice_get_past, slice_get_read}
@@ -9,14 +9,15 @@ use Rattle.indexmap.specs.IndexMap.{get_by}
 use Rattle.pc_shards.specs.declared.part.Part.{Part}
 use Rattle.pc_shards.specs.declared.queues.Queues.{Queues}
 use Rattle.pc_shards.specs.declared.shard_key.ShardKey.{ShardKey}
-use Rattle.pc_shards.specs.Entries.{ChangesNothing, ChangesOnly, Entries, Entry, is_first_offset, key_of, of_part, with_busy}
+use Rattle.pc_shards.specs.Entries.{ChangesNothing, ChangesOnly, Entries, Entry, failed, has_entry_at, is_first, is_first_offset, of_part, with_busy, with_failure}
 use Rattle.pc_shards.specs.Part.{EachAt, Holds, IsPart, plain_entries, queue}
 use Rattle.pc_shards.specs.Queues.{queue_of}
 use Rattle.pc_shards.specs.Rising.{In, but, put}
 use Rattle.pc_shards.specs.ShardKey.{part_of, plain_key}
 use Rattle.pc_shards.specs.Shards.{IsShards, KeepsParts, all_entries, entries_at, ready_at, room_at}
-use Rattle.pc_shards.proofs.Lists.{In-map, number-is, number-is_not}
+use Rattle.pc_shards.proofs.Lists.{In-list_any, In-map, and-both, list_any-In, number-is, number-is_not, number-same, true-false}
 use Rattle.pc_shards.proofs.PartLemmas.{one-entry}
+use Rattle.pc_shards.proofs.ChangedEntries.{part-changed, queue-changed}
 use Rattle.pc_shards.proofs.MarkedEntries.{busy-place, made_busy, made_free, queue-with_busy, with_busy-same}
 use Rattle.pc_shards.proofs.EntriesLemmas.{first-entry}
 
@@ -139,19 +140,27 @@ pub record IsFound (order : Order) (parts : List Part) (i o : ℕ) (s : Part) : 
   pub part : IsPart order i (plain_entries s.entries.items) s.ready.items (vec_capacity s.ready)
   pub first : is_first_offset order i (plain_entries s.entries.items) o ≡ true
 
-pub found : (order : Order) (queues : Queues) (parts : List Part) (i o : ℕ) (s : Part)
-    → IsShards order queues parts → is_first_offset order i (of_part (view order parts) i) o ≡ true
-    → s ≡ get_or parts i s → IsFound order parts i o s
-found order queues parts i o s is first at =
-    let past : length parts ≤ i → ⊥ = λ h. let none : is_first_offset order i [] o ≡ true =
-    subst (λ es. is_first_offset order i es o ≡ true) (of-all parts i
-    ∙ ap entries_in (slice_get_past parts i h)) first in cc in
+-- a test that no entry passes in a part that is not there shows that the part is
+own-part : (parts : List Part) (i : ℕ) (s : Part) (test : List Entry → Bool) → test [] ≡ false
+    → test (get_or (all_entries parts) i []) ≡ true → s ≡ get_or parts i s
+    → (i < length parts) × (slice_get parts i ≡ Some s)
+own-part parts i s test none passes at =
+    let past : length parts ≤ i → ⊥ = λ h. true-false (test []) (subst (λ es. test es ≡ true)
+    (of-all parts i ∙ ap entries_in (slice_get_past parts i h)) passes) none in
     let within : i < length parts = elim (cases_lt i (length parts)) [
       | inl lt ↦ lt
       | inr ge ↦ absurd
           (past ge)
     ] in
-    let own = slice_get_read parts (length parts) i s refl within at in
+    (within, slice_get_read parts (length parts) i s refl within at)
+
+pub found : (order : Order) (queues : Queues) (parts : List Part) (i o : ℕ) (s : Part)
+    → IsShards order queues parts → is_first_offset order i (of_part (view order parts) i) o ≡ true
+    → s ≡ get_or parts i s → IsFound order parts i o s
+found order queues parts i o s is first at =
+    let there = own-part parts i s (λ es. is_first_offset order i es o) refl first at in
+    let within = there.0 in
+    let own = there.1 in
     record {
       within = within;
       own = own;
@@ -168,8 +177,56 @@ found-holds order parts i o s f = let e = first-entry order i
     record {
       rises = f.part.rises;
       ready_rises = f.part.ready_rises;
-      has = rw (← e.2) (In-map (λ (x : Entry). x.offset) e.0 (plain_entries s.entries.items) e.1);
+      has = rw (← e.2) (In-map (λ (x : Entry). x.record.offset) e.0 (plain_entries s.entries.items) e.1);
     }
+
+-- the part's state, which has an entry at the offset
+pub record IsThere (order : Order) (parts : List Part) (i o : ℕ) (s : Part) : Type 0 where
+  pub within : i < length parts
+  pub own : slice_get parts i ≡ Some s
+  pub part : IsPart order i (plain_entries s.entries.items) s.ready.items (vec_capacity s.ready)
+  pub entry : Entry
+  pub has : In entry (plain_entries s.entries.items)
+  pub at : entry.record.offset ≡ o
+
+pub there : (order : Order) (queues : Queues) (parts : List Part) (i o : ℕ) (s : Part)
+    → IsShards order queues parts → has_entry_at o (of_part (view order parts) i) ≡ true
+    → s ≡ get_or parts i s → IsThere order parts i o s
+there order queues parts i o s is has at =
+    let one = own-part parts i s (λ es. has_entry_at o es) refl has at in
+    let some = In-list_any (λ (e : Entry). e.record.offset == o) (plain_entries s.entries.items)
+    (subst (λ es. has_entry_at o es ≡ true) (of-all parts i ∙ ap entries_in one.1) has) in
+    record {
+      within = one.0;
+      own = one.1;
+      part = subst (λ t. IsPartAt order i t) one.1 (is.each i);
+      entry = some.0;
+      has = some.1;
+      at = number-is some.0.record.offset o some.2;
+    }
+
+pub there-holds : (order : Order) (parts : List Part) (i o : ℕ) (s : Part)
+    → IsThere order parts i o s → Holds o s
+there-holds order parts i o s f = record {
+  rises = f.part.rises;
+  ready_rises = f.part.ready_rises;
+  has = rw (← f.at) (In-map (λ (x : Entry). x.record.offset) f.entry (plain_entries s.entries.items)
+      f.has);
+}
+
+-- where its entry is busy, the offset is the first of its ordering key
+pub there-busy : (order : Order) (parts : List Part) (i o : ℕ) (s : Part)
+    → IsThere order parts i o s → EachAt o (plain_entries s.entries.items) (λ e. e.is_busy ≡ true)
+    → IsFound order parts i o s
+there-busy order parts i o s f busy = record {
+  within = f.within;
+  own = f.own;
+  part = f.part;
+  first = list_any-In (λ (e : Entry). (e.record.offset == o)
+      && is_first order i (plain_entries s.entries.items) e) f.entry (plain_entries s.entries.items)
+      f.has (and-both (f.entry.record.offset == o) _ (number-same f.entry.record.offset o f.at)
+      (f.part.firsts f.entry f.has (busy f.entry f.has f.at)));
+}
 
 -- what clauses see of the part
 pub found-view : (order : Order) (parts : List Part) (i o : ℕ) (s : Part)
@@ -179,8 +236,27 @@ found-view order parts i o s f = of-all parts i ∙ ap entries_in f.own
 
 -- ---- each call
 
+failed-record : (o : ℕ) (e : Entry) → (failed o e).record ≡ e.record
+failed-record o e = elim (e.record.offset == o) as (λ c. (cond c (record
+    { «record» = e.record; failures = e.failures + 1; is_busy = e.is_busy }) e).record
+    ≡ e.record) [ true ↦ refl | false ↦ refl ]
+
+failed-busy : (o : ℕ) (e : Entry) → (failed o e).is_busy ≡ e.is_busy
+failed-busy o e = elim (e.record.offset == o) as (λ c. (cond c (record
+    { «record» = e.record; failures = e.failures + 1; is_busy = e.is_busy }) e).is_busy
+    ≡ e.is_busy) [ true ↦ refl | false ↦ refl ]
+
+pub part-like : (order : Order) (i : ℕ) (s t : Part) (es : List Entry) (ready : List ℕ)
+    → plain_entries t.entries.items ≡ es → t.ready.items ≡ ready
+    → vec_capacity t.ready ≡ vec_capacity s.ready → IsPart order i es ready (vec_capacity s.ready)
+    → IsPart order i (plain_entries t.entries.items) t.ready.items (vec_capacity t.ready)
+part-like order i s t es ready entries offsets room part =
+    subst (λ xs. IsPart order i xs t.ready.items (vec_capacity t.ready)) (sym entries)
+    (subst (λ os. IsPart order i es os (vec_capacity t.ready)) (sym offsets)
+    (subst (λ n. IsPart order i es ready n) (sym room) part))
+
 module _ (order : Order) (queues : Queues) (parts : List Part) (i o : ℕ) (s t : Part)
-    (is : IsShards order queues parts) (f : IsFound order parts i o s) where
+    (is : IsShards order queues parts) (own : slice_get parts i ≡ Some s) where
   -- the queues are those of the entries that were made busy or free
   marked-queues : (b : Bool) → plain_entries t.entries.items
       ≡ with_busy o b (plain_entries s.entries.items)
@@ -188,39 +264,51 @@ module _ (order : Order) (queues : Queues) (parts : List Part) (i o : ℕ) (s t 
       → queue_of queues k ≡ queue order i (plain_entries t.entries.items) (plain_key k)
   marked-queues b entries k at = is.queued k
       ∙ ap (λ q. queue order q (entries_at parts q) (plain_key k)) at
-      ∙ ap (λ (u : Option Part). queue order i (entries_in u) (plain_key k)) f.own
+      ∙ ap (λ (u : Option Part). queue order i (entries_in u) (plain_key k)) own
       ∙ sym (queue-with_busy order i o b (plain_entries s.entries.items) (plain_key k))
       ∙ ap (λ (es : List Entry). queue order i es (plain_key k)) (sym entries)
 
-  pub part-like : (es : List Entry) (ready : List ℕ) → plain_entries t.entries.items ≡ es
-      → t.ready.items ≡ ready
-      → vec_capacity t.ready ≡ vec_capacity s.ready → IsPart order i es ready (vec_capacity s.ready)
-      → IsPart order i (plain_entries t.entries.items) t.ready.items (vec_capacity t.ready)
-  part-like es ready entries offsets room part =
-      subst (λ xs. IsPart order i xs t.ready.items (vec_capacity t.ready)) (sym entries)
-      (subst (λ os. IsPart order i es os (vec_capacity t.ready)) (sym offsets)
-      (subst (λ n. IsPart order i es ready n) (sym room) part))
-
+module _ (order : Order) (queues : Queues) (parts : List Part) (i o : ℕ) (s t : Part)
+    (is : IsShards order queues parts) (f : IsFound order parts i o s) where
   pub shards-busy : plain_entries t.entries.items ≡ with_busy o true (plain_entries s.entries.items)
       → t.ready.items ≡ but o s.ready.items → vec_capacity t.ready ≡ vec_capacity s.ready
       → IsShards order queues (set parts i t)
   shards-busy entries ready room = shards-set order queues queues parts i t f.within is
-      (part-like (with_busy o true (plain_entries s.entries.items))
+      (part-like order i s t (with_busy o true (plain_entries s.entries.items))
       (but o s.ready.items) entries ready room
       (made_busy order i (plain_entries s.entries.items) s.ready.items
       (vec_capacity s.ready) o f.part f.first))
-      (marked-queues true entries) (λ k other. refl)
+      (marked-queues order queues parts i o s t is f.own true entries) (λ k other. refl)
 
+  -- and those of entries that failed once more
+  pub shards-failed : plain_entries t.entries.items
+      ≡ with_failure o (plain_entries s.entries.items) → t.ready ≡ s.ready
+      → IsShards order queues (set parts i t)
+  shards-failed entries ready = shards-set order queues queues parts i t f.within is
+      (part-like order i s t (with_failure o (plain_entries s.entries.items)) s.ready.items entries
+      (ap (λ v. v.items) ready) (ap (λ v. vec_capacity v) ready)
+      (part-changed (failed o) (failed-record o) order i (plain_entries s.entries.items)
+      s.ready.items (vec_capacity s.ready) (failed-busy o) f.part))
+      (λ k at. is.queued k
+      ∙ ap (λ q. queue order q (entries_at parts q) (plain_key k)) at
+      ∙ ap (λ (u : Option Part). queue order i (entries_in u) (plain_key k)) f.own
+      ∙ sym (queue-changed (failed o) (failed-record o) order i (plain_entries s.entries.items)
+      (plain_key k))
+      ∙ ap (λ (es : List Entry). queue order i es (plain_key k)) (sym entries))
+      (λ k other. refl)
+
+module _ (order : Order) (queues : Queues) (parts : List Part) (i o : ℕ) (s t : Part)
+    (is : IsShards order queues parts) (f : IsThere order parts i o s) where
   -- all entries at the offset are busy, or none is
   was : EachAt o (plain_entries s.entries.items) (λ e. e.is_busy ≡ true)
       ⊎ EachAt o (plain_entries s.entries.items) (λ e. e.is_busy ≡ false)
-  was = let e = first-entry order i (plain_entries s.entries.items) o f.first in
-      let one : (x : Entry) → In x (plain_entries s.entries.items) → x.offset ≡ o
-      → x.is_busy ≡ e.0.is_busy =
+  was =
+      let one : (x : Entry) → In x (plain_entries s.entries.items) → x.record.offset ≡ o
+      → x.is_busy ≡ f.entry.is_busy =
       λ x j at. ap (λ (y : Entry). y.is_busy) (one-entry
       (plain_entries s.entries.items) f.part.rises
-      x e.0 j e.1 (at ∙ sym e.2)) in
-      elim (cases_Bool e.0.is_busy) [
+      x f.entry j f.has (at ∙ sym f.at)) in
+      elim (cases_Bool f.entry.is_busy) [
         | inl busy ↦ inl (λ x j at. one x j at ∙ busy)
         | inr free ↦ inr (λ x j at. one x j at ∙ free)
       ]
@@ -229,7 +317,7 @@ module _ (order : Order) (queues : Queues) (parts : List Part) (i o : ℕ) (s t 
       → length s.ready.items < vec_capacity s.ready
   free-place busy = busy-place order i (plain_entries s.entries.items) s.ready.items
       (vec_capacity s.ready) o
-      f.part f.first busy
+      f.part (there-busy order parts i o s f busy).first busy
 
   pub shards-free : plain_entries t.entries.items
       ≡ with_busy o false (plain_entries s.entries.items)
@@ -240,17 +328,24 @@ module _ (order : Order) (queues : Queues) (parts : List Part) (i o : ℕ) (s t 
       → vec_capacity t.ready ≡ vec_capacity s.ready → IsShards order queues (set parts i t)
   shards-free entries ready same room = shards-set order queues queues parts i t f.within is
       (elim was [
-        | inl busy ↦ part-like (with_busy o false (plain_entries s.entries.items))
+        | inl busy ↦ part-like order i s t (with_busy o false (plain_entries s.entries.items))
             (put o s.ready.items) entries
             (ready busy) room (made_free order i (plain_entries s.entries.items) s.ready.items
-            (vec_capacity s.ready) o f.part f.first busy)
-        | inr free ↦ part-like (plain_entries s.entries.items) s.ready.items
+            (vec_capacity s.ready) o f.part (there-busy order parts i o s f busy).first busy)
+        | inr free ↦ part-like order i s t (plain_entries s.entries.items) s.ready.items
             (entries ∙ with_busy-same o false (plain_entries s.entries.items) free)
             (same free) room f.part
       ])
-      (marked-queues false entries) (λ k other. refl)
+      (marked-queues order queues parts i o s t is f.own false entries) (λ k other. refl)
 
 -- what clauses see of the part changes as its entries do
+pub view-there : (order : Order) (parts : List Part) (i o : ℕ) (s t : Part)
+    → IsThere order parts i o s → (change : List Entry → List Entry)
+    → plain_entries t.entries.items ≡ change (plain_entries s.entries.items)
+    → of_part (view order (set parts i t)) i ≡ change (of_part (view order parts) i)
+view-there order parts i o s t f change entries = view-set order parts i t f.within ∙ entries
+    ∙ ap change (sym (of-all parts i ∙ ap entries_in f.own))
+
 pub view-changed : (order : Order) (parts : List Part) (i o : ℕ) (s t : Part)
     → IsFound order parts i o s
     → (change : List Entry → List Entry)
@@ -260,17 +355,6 @@ view-changed order parts i o s t f change entries = view-set order parts i t f.w
     ∙ ap change (sym (found-view order parts i o s f))
 
 -- ---- keys
-
-pub key_of-same : (order : Order) (p : ℕ) (e g : Entry) → e.offset ≡ g.offset → e.key ≡ g.key
-    → key_of order p e ≡ key_of order p g
-key_of-same order p e g offset key = ap (λ o. key_of order p
-    (record { offset = o; key = e.key; is_busy = false })) offset
-    ∙ ap (λ (k : Option (List ℕ)). key_of order p (record {
-      offset = g.offset;
-      key = k;
-      is_busy =
-          false;
-    })) key
 
 -- the queue of a key goes by the ordering key
 pub queue_of-same : (queues : Queues) (k l : ShardKey) → plain_key k ≡ plain_key l

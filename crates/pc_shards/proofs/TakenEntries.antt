@@ -17,7 +17,7 @@ use Rattle.pc_shards.proofs.EntriesLemmas.{In-queue, first-head, first-low, firs
 queue-without : (order : Order) (p o : ℕ) (es : List Entry) (k : OrderingKey)
     → queue order p (without o es) k ≡ but o (queue order p es k)
 queue-without order p o [] k = refl
-queue-without order p o (e ∷ es) k = elim (cases_Bool (e.offset == o)) [
+queue-without order p o (e ∷ es) k = elim (cases_Bool (e.record.offset == o)) [
   | inl at ↦ rw at (elim (same_key k (key_of order p e)) as (λ s. queue order p (without o es) k
       ≡ but o (offsets_of (cond s (e ∷ filter (λ y. same_key k (key_of order p y)) es)
       (filter (λ y. same_key k (key_of order p y)) es)))) [
@@ -29,24 +29,24 @@ queue-without order p o (e ∷ es) k = elim (cases_Bool (e.offset == o)) [
       (filter (λ y. same_key k (key_of order p y)) (without o es)))
       ≡ but o (offsets_of (cond s (e ∷ filter (λ y. same_key k (key_of order p y)) es)
       (filter (λ y. same_key k (key_of order p y)) es)))) [
-        | true ↦ rw off (ap (λ os. e.offset ∷ os) (queue-without order p o es k))
+        | true ↦ rw off (ap (λ os. e.record.offset ∷ os) (queue-without order p o es k))
         | false ↦ queue-without order p o es k
       ])
 ]
 
 module _ (order : Order) (p : ℕ) (es : List Entry) (ready : List ℕ) (places o : ℕ)
-    (is : IsPart order p es ready places) (f : Entry) (has : In f es) (at : f.offset ≡ o)
+    (is : IsPart order p es ready places) (f : Entry) (has : In f es) (at : f.record.offset ≡ o)
     (first : is_first order p es f ≡ true) where
-  left : (e : Entry) → In e (without o es) → In e es × ((e.offset == o) ≡ false)
-  left e i = let m = In-filtered (λ (x : Entry). not (x.offset == o)) e es i in
-      (m.0, not-true (e.offset == o) m.1)
+  left : (e : Entry) → In e (without o es) → In e es × ((e.record.offset == o) ≡ false)
+  left e i = let m = In-filtered (λ (x : Entry). not (x.record.offset == o)) e es i in
+      (m.0, not-true (e.record.offset == o) m.1)
 
-  stays : (e : Entry) → In e es → (e.offset == o) ≡ false → In e (without o es)
-  stays e i off = In-filter (λ (x : Entry). not (x.offset == o)) e es i (not-false
-      (e.offset == o) off)
+  stays : (e : Entry) → In e es → (e.record.offset == o) ≡ false → In e (without o es)
+  stays e i off = In-filter (λ (x : Entry). not (x.record.offset == o)) e es i (not-false
+      (e.record.offset == o) off)
 
   rises-left : Rises (offsets_of (without o es))
-  rises-left = Rises-map-filter (λ (x : Entry). x.offset) (λ x. not (x.offset == o)) es is.rises
+  rises-left = Rises-map-filter (λ (x : Entry). x.record.offset) (λ x. not (x.record.offset == o)) es is.rises
 
   first-left : (e : Entry) → is_first order p es e ≡ true → is_first order p (without o es) e ≡ true
   first-left e fi = first-some order p es (without o es) e (λ q i. (left q i).0) fi
@@ -78,13 +78,13 @@ module _ (order : Order) (p : ℕ) (es : List Entry) (ready : List ℕ) (places 
       let low : is_first order p es q.0 ≡ true → ⊥ = λ fi.
       let le = first-low order p es q.0 fi f has q.3 in
       let ge = first-low order p es f first q.0 l.0 (sym q.3) in
-      number-is_not q.0.offset o l.1 (omega (arith, le, ge, at)) in (
+      number-is_not q.0.record.offset o l.1 (omega (arith, le, ge, at)) in (
         record {
           entry = q.0;
           has = q.1;
           at = sym q.2;
           first = head-first order p (without o es) q.0 rises-left
-              (subst (λ k. slice_get (queue order p (without o es) k) 0 ≡ Some q.0.offset) q.3
+              (subst (λ k. slice_get (queue order p (without o es) k) 0 ≡ Some q.0.record.offset) q.3
               (head ∙ ap Some q.2));
           free = elim (cases_Bool q.0.is_busy) [
             | inl busy ↦ absurd (low (is.firsts q.0 l.0 busy))
@@ -119,10 +119,10 @@ module _ (order : Order) (p : ℕ) (es : List Entry) (ready : List ℕ) (places 
           entry = r.entry;
           has = l.0;
           at = r.at;
-          first = low-first order p es r.entry (λ q i same. elim (cases_Bool (q.offset == o)) [
+          first = low-first order p es r.entry (λ q i same. elim (cases_Bool (q.record.offset == o)) [
             | inl here ↦ true-false (same_key (key_of order p f) (key_of order p r.entry))
                 (same_key-is (key_of order p f) (key_of order p r.entry) (ap (key_of order p)
-                (one-entry es is.rises f q has i (at ∙ sym (number-is q.offset o here)))
+                (one-entry es is.rises f q has i (at ∙ sym (number-is q.record.offset o here)))
                 ∙ same)) other
             | inr off ↦ first-low order p (without o es) r.entry r.first q (stays q i off) same
           ]);
@@ -131,7 +131,7 @@ module _ (order : Order) (p : ℕ) (es : List Entry) (ready : List ℕ) (places 
       ]
 
   room-left : length (without o es) ≤ places
-  room-left = let le = length-filter-le (λ (x : Entry). not (x.offset == o)) es in
+  room-left = let le = length-filter-le (λ (x : Entry). not (x.record.offset == o)) es in
       let room = is.room in omega (arith, le, room)
 
   busy-left : (e : Entry) → In e (without o es) → e.is_busy ≡ true
@@ -164,11 +164,11 @@ module _ (order : Order) (p : ℕ) (es : List Entry) (ready : List ℕ) (places 
         let r = (next-entry n head).0 in
         let few = length-but_one n (but o ready) (offsets_of (without o es))
         (Rises-filter (λ x. not (x == o)) ready is.ready_rises) rises-left
-        (λ u i. let s = still u i in rw (← s.at) (In-map (λ (y : Entry). y.offset) s.entry
+        (λ u i. let s = still u i in rw (← s.at) (In-map (λ (y : Entry). y.record.offset) s.entry
         (without o es) s.has))
-        (rw (← r.at) (In-map (λ (y : Entry). y.offset) r.entry (without o es) r.has))
+        (rw (← r.at) (In-map (λ (y : Entry). y.record.offset) r.entry (without o es) r.has))
         next-apart in
-        let len = length-map (without o es) (λ (y : Entry). y.offset) in
+        let len = length-map (without o es) (λ (y : Entry). y.record.offset) in
         let room = room-left in omega (arith, few, len, room)
 
     -- which is ready then

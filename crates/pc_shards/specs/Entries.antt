@@ -1,19 +1,19 @@
 -- The polled, incomplete records of the parts, and which of them may be dispatched by the ordering
 -- keys.
-use Rattle.std.specs.Prelude.{ℕ, pos, ◌≡◌, Bool, true, false, not, ◌&&◌, ◌==◌, nat_lt, if◌then◌else◌, List, map, filter, [], slice_index_or, Option, None}
+use Rattle.std.specs.Prelude.{ℕ, ◌+◌, pos, ◌≡◌, Bool, true, false, not, ◌&&◌, ◌==◌, nat_lt, if◌then◌else◌, List, map, filter, [], slice_index_or, Option, None}
 use Rattle.std.specs.Borrow.{Bor}
 use Rattle.std.specs.Option.{option_copied}
-use Rattle.std.specs.List.{list_any, list_all}
+use Rattle.std.specs.List.{find, list_any, list_all}
 use Rattle.pc_model.specs.declared.choices.Order.{Order}
 use Rattle.pc_model.specs.Record.{Record}
 use Rattle.pc_model.specs.Numbers.{least_of}
 use Rattle.pc_model.specs.Next.{OrderingKey, ordering_key, same_key}
 use Rattle.pc_shards.specs.Rising.{In}
 
--- a record that was polled and is incomplete: its offset, its key's bytes, and whether it is busy
+-- a record that was polled and is incomplete: how often it failed, and whether it is busy
 pub record Entry : Type 0 where
-  pub offset : ℕ
-  pub key : Option (List ℕ)
+  pub «record» : Record
+  pub failures : ℕ
   pub is_busy : Bool
 
 -- what clauses see: the order, and the entries of part p at place p of `parts`
@@ -25,26 +25,26 @@ pub record Entries : Type 0 where
 abbrev pub of_part : Entries → ℕ → List Entry
 of_part s p = slice_index_or s.parts p []
 
--- the entry of a record's offset and lent key, which is not busy
-abbrev pub new_entry : ℕ × Option (Bor (List ℕ)) → Entry
-new_entry r = record { offset = r.0; key = option_copied r.1; is_busy = false }
+-- a record of which nothing but its offset and its key is known
+abbrev pub bare_record : ℕ → Option (List ℕ) → Record
+bare_record o key = record
+    { offset = o; time = pos 0; key = key; value = None; headers = [] }
 
--- the entries of records, in their order
+-- the entry of a record that did not fail and is not busy
+abbrev pub new_entry : Record → Entry
+new_entry r = record { «record» = r; failures = 0; is_busy = false }
+
+-- the entries of offsets and lent keys, in their order
 abbrev pub new_entries : List (ℕ × Option (Bor (List ℕ))) → List Entry
-new_entries rs = map new_entry rs
-
--- the record of an entry, as far as ordering keys see it
-abbrev pub record_of : Entry → Record
-record_of e = record
-    { offset = e.offset; time = pos 0; key = e.key; value = None; headers = [] }
+new_entries rs = map (λ r. new_entry (bare_record r.0 (option_copied r.1))) rs
 
 -- the ordering key of an entry of the part
 abbrev pub key_of : Order → ℕ → Entry → OrderingKey
-key_of order p e = ordering_key order p (record_of e)
+key_of order p e = ordering_key order p e.record
 
 -- whether the first entry has the lesser offset and shares the ordering key of the second
 abbrev pub is_before : Order → ℕ → Entry → Entry → Bool
-is_before order p q e = nat_lt q.offset e.offset && same_key (key_of order p q) (key_of order p e)
+is_before order p q e = nat_lt q.record.offset e.record.offset && same_key (key_of order p q) (key_of order p e)
 
 -- whether an entry of the part is the first of its ordering key among these
 abbrev pub is_first : Order → ℕ → List Entry → Entry → Bool
@@ -52,11 +52,11 @@ is_first order p es e = list_all (λ q. not (is_before order p q e)) es
 
 -- whether the offset is that of an entry which is the first of its ordering key
 abbrev pub is_first_offset : Order → ℕ → List Entry → ℕ → Bool
-is_first_offset order p es o = list_any (λ e. (e.offset == o) && is_first order p es e) es
+is_first_offset order p es o = list_any (λ e. (e.record.offset == o) && is_first order p es e) es
 
 -- the offsets of the entries that are the first of their ordering key and not busy
 abbrev pub ready_offsets : Order → ℕ → List Entry → List ℕ
-ready_offsets order p es = map (λ e. e.offset)
+ready_offsets order p es = map (λ e. e.record.offset)
     (filter (λ e. is_first order p es e && not e.is_busy) es)
 
 -- the least of these
@@ -65,15 +65,33 @@ least_ready_of order p es = least_of (ready_offsets order p es)
 
 -- the entry, which is busy or not where it is at the offset
 abbrev pub marked : ℕ → Bool → Entry → Entry
-marked o b e = if e.offset == o then record { offset = e.offset; key = e.key; is_busy = b } else e
+marked o b e = if e.record.offset == o then
+    record { «record» = e.record; failures = e.failures; is_busy = b } else e
 
 -- the entries, of which those at the offset are busy or not
 abbrev pub with_busy : ℕ → Bool → List Entry → List Entry
 with_busy o b es = map (marked o b) es
 
+-- the entry, which failed once more where it is at the offset
+abbrev pub failed : ℕ → Entry → Entry
+failed o e = if e.record.offset == o then
+    record { «record» = e.record; failures = e.failures + 1; is_busy = e.is_busy } else e
+
+-- the entries, of which those at the offset failed once more
+abbrev pub with_failure : ℕ → List Entry → List Entry
+with_failure o es = map (failed o) es
+
+-- the entry at the offset
+abbrev pub entry_at : ℕ → List Entry → Option Entry
+entry_at o es = find (λ e. e.record.offset == o) es
+
+-- whether there is an entry at the offset
+abbrev pub has_entry_at : ℕ → List Entry → Bool
+has_entry_at o es = list_any (λ e. e.record.offset == o) es
+
 -- the entries without those at the offset
 abbrev pub without : ℕ → List Entry → List Entry
-without o es = filter (λ e. not (e.offset == o)) es
+without o es = filter (λ e. not (e.record.offset == o)) es
 
 -- that of an ordering key at most the first is busy
 abbrev pub BusyAreFirst : Order → ℕ → List Entry → Type 0

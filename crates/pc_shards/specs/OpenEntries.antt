@@ -6,11 +6,11 @@ use Rattle.pc_model.specs.Given.{Given}
 use Rattle.pc_model.specs.Known.{is_complete, polled_records}
 use Rattle.pc_shards.specs.Entries.{Entry}
 
--- the entry of a record, which is busy or not
-abbrev pub entry_of : (Record → Bool) → Record → Entry
-entry_of busy r = record { offset = r.offset; key = r.key; is_busy = busy r }
+-- the entry of a record, which is busy or not and failed so often
+abbrev pub entry_of : (Record → Bool) → (Record → ℕ) → Record → Entry
+entry_of busy failures r = record { «record» = r; failures = failures r; is_busy = busy r }
 
--- the entries of a part's polled, incomplete records, of which some are busy
-abbrev pub open_entries : Given → List Event → ℕ → (Record → Bool) → List Entry
-open_entries given h p busy = map (entry_of busy)
+-- the entries of a part's polled, incomplete records
+abbrev pub open_entries : Given → List Event → ℕ → (Record → Bool) → (Record → ℕ) → List Entry
+open_entries given h p busy failures = map (entry_of busy failures)
     (filter (λ r. not (is_complete h p r.offset)) (polled_records given h p))

@@ -8,6 +8,7 @@ mod rising;
 mod shard_key;
 mod shards;
 
+pub use part::EntryRef;
 pub use shards::Shards;
 
 #[cfg(test)]

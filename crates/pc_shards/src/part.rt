@@ -1,21 +1,23 @@
 //! The entries of one part in rising order of offsets, and beside them the offsets that are ready.
 //! Clauses see the entries by `plain_entries`.
 
-ghost use Rattle.std.specs.Prelude.{◌≡◌, ◌<◌, ◌≤◌, ◌++◌, ◌∷◌, [], false, true, length, if◌then◌else◌, slice_index_or, vec_capacity, vec_len, OnOk};
+ghost use Rattle.std.specs.Prelude.{◌≡◌, ◌+◌, ◌<◌, ◌≤◌, ◌^◌, ◌++◌, ◌∷◌, [], false, true, length, if◌then◌else◌, option_map, slice_index_or, vec_capacity, vec_len, OnOk};
+ghost use Rattle.std.specs.List.{AllWithin};
 ghost use Rattle.std.specs.Option.{option_copied};
 ghost use Rattle.pc_shards.specs.declared.part.EntryRef.{EntryRef};
-ghost use Rattle.pc_shards.specs.Entries.{with_busy, without};
-ghost use Rattle.pc_shards.specs.Part.{EachAt, Holds, plain_entries};
+ghost use Rattle.pc_shards.specs.Entries.{entry_at, with_busy, with_failure, without};
+ghost use Rattle.pc_shards.specs.Part.{EachAt, Holds, offsets_of, plain, plain_entries};
 ghost use Rattle.pc_shards.specs.Rising.{Rises, but, put};
 
 use crate::rising;
+use pc_batch::RecordRef;
 use std::alloc::{AllocError, Global};
 
-/// A polled, incomplete record.
+/// A polled, incomplete record: how often it failed, and whether it is busy.
 #[derive(Clone, Copy, Debug)]
 pub struct EntryRef<'a> {
-    pub offset: u64,
-    pub key: Option<&'a [u8]>,
+    pub record: RecordRef<'a>,
+    pub failures: u32,
     pub is_busy: bool,
 }
 
@@ -56,23 +58,54 @@ impl<'a> Part<'a> {
     }
 
     /// Puts an entry at the end, for which room was made, and its offset where it is ready.
-    pub fn push(&mut self, offset: u64, key: Option<&'a [u8]>, is_ready: bool)
+    pub fn push(&mut self, added: RecordRef<'a>, is_ready: bool)
         requires places { vec_len self.old.entries < vec_capacity self.old.entries }
         requires room { vec_len self.old.ready < vec_capacity self.old.ready }
         ensures entries { self.new.entries.items ≡ self.old.entries.items
-            ++ record { offset = offset; key = key.entry; is_busy = false } ∷ [] }
-        ensures ready { self.new.ready.items ≡
-            (if is_ready then self.old.ready.items ++ offset ∷ [] else self.old.ready.items) }
+            ++ record { «record» = added.entry; failures = 0; is_busy = false } ∷ [] }
+        ensures ready { self.new.ready.items ≡ (if is_ready
+            then self.old.ready.items ++ added.entry.offset ∷ [] else self.old.ready.items) }
         ensures capacity { vec_capacity self.new.ready ≡ vec_capacity self.old.ready }
     {
         self.entries.push_reserved(EntryRef {
-            offset,
-            key,
+            record: added,
+            failures: 0,
             is_busy: false,
         });
         if is_ready {
-            self.ready.push_reserved(offset);
+            self.ready.push_reserved(added.offset);
         }
+    }
+
+    /// The entry at the offset.
+    pub fn entry(&self, offset: u64) -> Option<EntryRef<'a>>
+        requires { Rises (offsets_of (plain_entries self.now.entries.items)) }
+        ensures { option_map plain result ≡ entry_at offset (plain_entries self.now.entries.items) }
+    {
+        let at = self.count_below(offset);
+        let entry = self.entries.as_slice().get(at)?;
+        if entry.record.offset == offset {
+            Some(*entry)
+        } else {
+            None
+        }
+    }
+
+    /// Counts one more failure of the offset.
+    pub fn fail(&mut self, offset: u64)
+        requires holds { Holds offset self.old }
+        requires fits { EachAt offset (plain_entries self.old.entries.items)
+            (λ e. e.failures + 1 < 2 ^ 32) }
+        ensures entries { plain_entries self.new.entries.items
+            ≡ with_failure offset (plain_entries self.old.entries.items) }
+        ensures ready { self.new.ready ≡ self.old.ready }
+    {
+        let at = self.place(offset);
+        let entry = self.entries[at];
+        self.entries[at] = EntryRef {
+            failures: entry.failures + 1,
+            ..entry
+        };
     }
 
     /// Makes the offset busy, which is not ready then.
@@ -111,14 +144,14 @@ impl<'a> Part<'a> {
         ensures entries { plain_entries self.new.entries.items
             ≡ without offset (plain_entries self.old.entries.items) }
         ensures key { EachAt offset (plain_entries self.old.entries.items)
-            (λ e. e.key ≡ option_copied result) }
+            (λ e. e.record.key ≡ option_copied result) }
         ensures ready { self.new.ready.items ≡ but offset self.old.ready.items }
         ensures capacity { vec_capacity self.new.ready ≡ vec_capacity self.old.ready }
     {
         let at = self.place(offset);
         let entry = self.entries.remove(at);
         rising::remove(&mut self.ready, offset);
-        entry.key
+        entry.record.key
     }
 
     /// Takes out the last entry, which is not ready then.
@@ -126,13 +159,13 @@ impl<'a> Part<'a> {
         requires some { 0 < vec_len self.old.entries }
         requires rises { Rises self.old.ready.items }
         ensures entries { self.old.entries.items ≡ self.new.entries.items ++ result ∷ [] }
-        ensures ready { self.new.ready.items ≡ but result.offset self.old.ready.items }
+        ensures ready { self.new.ready.items ≡ but result.record.offset self.old.ready.items }
         ensures capacity { vec_capacity self.new.ready ≡ vec_capacity self.old.ready }
     {
         let Some(entry) = self.entries.pop() else {
             unreachable!();
         };
-        rising::remove(&mut self.ready, entry.offset);
+        rising::remove(&mut self.ready, entry.record.offset);
         entry
     }
 
@@ -152,11 +185,22 @@ impl<'a> Part<'a> {
         requires { Holds offset self.now }
         ensures within { result < length self.now.entries.items }
         ensures place { (d : EntryRef)
-            → (slice_index_or self.now.entries.items result d).offset ≡ offset }
+            → (slice_index_or self.now.entries.items result d).record.offset ≡ offset }
+    {
+        self.count_below(offset)
+    }
+
+    /// How many entries are below the offset.
+    fn count_below(&self, offset: u64) -> usize
+        requires { Rises (offsets_of (plain_entries self.now.entries.items)) }
+        ensures within { result ≤ length self.now.entries.items }
+        ensures below { AllWithin (λ e. e.record.offset < offset) self.now.entries.items 0 result }
+        ensures above { AllWithin (λ e. offset ≤ e.record.offset) self.now.entries.items result
+            (length self.now.entries.items) }
     {
         self.entries
             .as_slice()
-            .partition_point(|entry| entry.offset < offset)
+            .partition_point(|entry| entry.record.offset < offset)
     }
 
     /// Makes the offset's entry busy or not, and tells what it was.

@@ -1,8 +1,9 @@
 //! Ordering keys, whose bytes are lent from the logs. `plain_key` is the key that one stands for.
 
-ghost use Rattle.std.specs.Prelude.{◌≡◌, false};
+ghost use Rattle.std.specs.Prelude.{◌≡◌};
 ghost use Rattle.std.specs.Option.{option_copied};
-ghost use Rattle.pc_shards.specs.Entries.{key_of};
+ghost use Rattle.pc_model.specs.Next.{ordering_key};
+ghost use Rattle.pc_shards.specs.Entries.{bare_record};
 ghost use Rattle.pc_shards.specs.ShardKey.{part_of, plain_key};
 
 use pc_model::Order;
@@ -20,8 +21,8 @@ pub enum ShardKey<'a> {
 
 /// The ordering key of a record.
 pub fn of_record<'a>(order: Order, part: u32, offset: u64, key: Option<&'a [u8]>) -> ShardKey<'a>
-    ensures key { plain_key result ≡ key_of order part
-        (record { offset = offset; key = option_copied key.entry; is_busy = false }) }
+    ensures key { plain_key result
+        ≡ ordering_key order part (bare_record offset (option_copied key.entry)) }
     ensures part { part_of result ≡ part }
 {
     match order {

@@ -1,16 +1,19 @@
 //! The shards. Clauses see the order, and the entries of each part in the order in which they were
 //! added.
 
-ghost use Rattle.std.specs.Prelude.{◌≡◌, ℕ, ◌<◌, ◌++◌, ◌∷◌, [], false, true, OnErr, OnOk, ◌-◌, length, map, take};
+ghost use Rattle.std.specs.Prelude.{◌≡◌, ℕ, ◌+◌, ◌<◌, ◌^◌, ◌++◌, ◌∷◌, [], false, true, OnErr, OnOk, ◌-◌, length, map, option_map, take};
 ghost use Rattle.std.specs.List.{All};
 ghost use Rattle.std.specs.Option.{option_copied};
+ghost use Rattle.pc_batch.specs.Record.{plain};
+ghost use Rattle.pc_shards.specs.Part.{EachAt, plain as plain_entry};
 ghost use Rattle.pc_shards.specs.Rising.{Rises};
 ghost use Rattle.pc_shards.specs.Shards.{HasRoomAt, KeepsParts};
-ghost use Rattle.pc_shards.specs.Entries.{BusyAreFirst, ChangesNothing, ChangesOnly, is_first_offset, least_ready_of, new_entries, of_part, with_busy, without};
+ghost use Rattle.pc_shards.specs.Entries.{BusyAreFirst, ChangesNothing, ChangesOnly, bare_record, entry_at, has_entry_at, is_first_offset, least_ready_of, new_entries, new_entry, of_part, with_busy, with_failure, without};
 
-use crate::part::Part;
+use crate::part::{EntryRef, Part};
 use crate::queues::Queues;
 use crate::shard_key;
+use pc_batch::{Headers, RecordRef};
 use pc_model::Order;
 use std::alloc::{AllocError, Global};
 use std::marker::Model;
@@ -53,19 +56,39 @@ impl<'a> Shards<'a> {
         }
     }
 
-    /// Adds a record that was polled and is incomplete, above all of its part that are there. It is
-    /// not busy. Makes the room that the other calls need.
+    /// Adds a record of which nothing but the offset and the key is known: it has the time 0, a
+    /// null value and no headers. As `add_record` otherwise.
     pub fn add(&mut self, part: u32, offset: u64, key: Option<&'a [u8]>) -> Result<(), AllocError>
-        requires { All (λ e. e.offset < offset) (of_part self.old part) }
-        ensures added { OnOk result (of_part self.new part ≡ of_part self.old part ++
-            record { offset = offset; key = option_copied key.entry; is_busy = false } ∷ []) }
+        requires { All (λ e. e.record.offset < offset) (of_part self.old part) }
+        ensures added { OnOk result (of_part self.new part ≡ of_part self.old part
+            ++ new_entry (bare_record offset (option_copied key.entry)) ∷ []) }
+        ensures others { OnOk result (ChangesOnly part self.old self.new) }
+        ensures stays { OnErr result (ChangesNothing self.old self.new) }
+    {
+        let bare = RecordRef {
+            offset,
+            time: 0,
+            key,
+            value: None,
+            headers: Headers::none(),
+        };
+        self.add_record(part, bare)
+    }
+
+    /// Adds a record that was polled and is incomplete, above all of its part that are there. It
+    /// did not fail and is not busy. Makes the room that the other calls need. Fails where memory
+    /// runs out, and changes nothing then.
+    pub fn add_record(&mut self, part: u32, added: RecordRef<'a>) -> Result<(), AllocError>
+        requires { All (λ e. e.record.offset < added.offset) (of_part self.old part) }
+        ensures added { OnOk result (of_part self.new part
+            ≡ of_part self.old part ++ new_entry (plain added.entry) ∷ []) }
         ensures others { OnOk result (ChangesOnly part self.old self.new) }
         ensures stays { OnErr result (ChangesNothing self.old self.new) }
     {
         make_room(&mut self.parts, self.alloc, part as usize)?;
-        let shard = shard_key::of_record(self.order, part, offset, key);
-        let is_first = self.queues.push(shard, offset)?;
-        self.parts[part as usize].push(offset, key, is_first);
+        let shard = shard_key::of_record(self.order, part, added.offset, added.key);
+        let is_first = self.queues.push(shard, added.offset)?;
+        self.parts[part as usize].push(added, is_first);
         Ok(())
     }
 
@@ -78,31 +101,37 @@ impl<'a> Shards<'a> {
         records: &[(u64, Option<&'a [u8]>)],
     ) -> Result<(), AllocError>
         requires rises { Rises (map (λ r. r.0) records.now) }
-        requires above { All (λ r. All (λ e. e.offset < r.0) (of_part self.old part)) records.now }
+        requires above { All (λ r. All (λ e. e.record.offset < r.0) (of_part self.old part)) records.now }
         ensures added { OnOk result
             (of_part self.new part ≡ of_part self.old part ++ new_entries records.now) }
         ensures others { OnOk result (ChangesOnly part self.old self.new) }
         ensures stays { OnErr result (ChangesNothing self.old self.new) }
     {
-        let len = self.count(part);
+        let count = self.count(part);
         for (offset, key) in records {
             if let Err(error) = self.add(part, *offset, *key) {
-                self.cut(part, len);
+                self.truncate(part, count);
                 return Err(error);
             }
         }
         Ok(())
     }
 
-    /// Takes out all entries of the part but the first of this number, busy or not. Takes no
-    /// memory.
-    pub fn cut(&mut self, part: u32, len: usize)
-        ensures cut { of_part self.new part ≡ take len (of_part self.old part) }
+    /// Takes out all entries of the part but the first `count`, busy or not. Takes no memory.
+    pub fn truncate(&mut self, part: u32, count: usize)
+        ensures front { of_part self.new part ≡ take count (of_part self.old part) }
         ensures others { ChangesOnly part self.old self.new }
     {
-        'cut: while len < self.count(part) {
+        'cut: while count < self.count(part) {
             self.pop(part);
         }
+    }
+
+    /// The entry at the offset, if the part has one.
+    pub fn entry(&self, part: u32, offset: u64) -> Option<EntryRef<'a>>
+        ensures { option_map plain_entry result ≡ entry_at offset (of_part self.now part) }
+    {
+        self.parts.as_slice().get(part as usize)?.entry(offset)
     }
 
     /// The least offset of the part that is the first of its ordering key and not busy. Of an
@@ -125,13 +154,25 @@ impl<'a> Shards<'a> {
         self.parts[part as usize].busy(offset);
     }
 
-    /// Makes an offset ready again that is the first of its ordering key. Takes no memory.
+    /// Makes an entry of the part ready again, if it is busy. Takes no memory.
     pub fn free(&mut self, part: u32, offset: u64)
-        requires { is_first_offset self.old.order part (of_part self.old part) offset ≡ true }
+        requires { has_entry_at offset (of_part self.old part) ≡ true }
         ensures free { of_part self.new part ≡ with_busy offset false (of_part self.old part) }
         ensures others { ChangesOnly part self.old self.new }
     {
         self.parts[part as usize].free(offset);
+    }
+
+    /// Counts one more failure of an offset that is the first of its ordering key and failed fewer
+    /// than 2^32 - 1 times. It stays busy or ready as it is. Takes no memory.
+    pub fn fail(&mut self, part: u32, offset: u64)
+        requires first { is_first_offset self.old.order part (of_part self.old part) offset
+            ≡ true }
+        requires fits { EachAt offset (of_part self.old part) (λ e. e.failures + 1 < 2 ^ 32) }
+        ensures failed { of_part self.new part ≡ with_failure offset (of_part self.old part) }
+        ensures others { ChangesOnly part self.old self.new }
+    {
+        self.parts[part as usize].fail(offset);
     }
 
     /// Takes out an offset that is the first of its ordering key, and is busy or not. The next of
@@ -171,7 +212,7 @@ impl<'a> Shards<'a> {
     }
 
     /// How many entries the part has.
-    fn count(&self, part: u32) -> usize
+    pub fn count(&self, part: u32) -> usize
         ensures { result ≡ length (of_part self.now part) }
     {
         let Some(state) = self.parts.as_slice().get(part as usize) else {
@@ -188,7 +229,7 @@ impl<'a> Shards<'a> {
         ensures others { ChangesOnly part self.old self.new }
     {
         let entry = self.parts[part as usize].pop();
-        let shard = shard_key::of_record(self.order, part, entry.offset, entry.key);
+        let shard = shard_key::of_record(self.order, part, entry.record.offset, entry.record.key);
         self.queues.pop_back(shard);
     }
 }

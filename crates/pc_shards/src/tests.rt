@@ -1,7 +1,7 @@
 //! What no clause says: that memory is found.
 
-ghost use Rattle.std.specs.Prelude.{◌≡◌, ℕ, true, [], IfOk, IfSome};
-ghost use Rattle.pc_shards.specs.Entries.{is_first_offset, of_part};
+ghost use Rattle.std.specs.Prelude.{◌≡◌, ℕ, ◌∷◌, None, true, [], IfOk, IfSome};
+ghost use Rattle.pc_shards.specs.Entries.{bare_record, is_first_offset, new_entry, of_part};
 
 use crate::Shards;
 use pc_model::Order;
@@ -88,6 +88,26 @@ fn parts_are_apart(rt: HostRuntime) -> Result<(), Fail> {
 }
 
 #[test]
+fn failures_are_counted(rt: HostRuntime) -> Result<(), Fail> {
+    for order in [Order::None, Order::Partition, Order::Key] {
+        let mut shards = one(rt.alloc(), order)?;
+        fail_once(&mut shards);
+        let Some(entry) = shards.entry(0, 7) else {
+            panic!(&rt; "the entry is gone");
+        };
+        assert_eq!(rt; entry.record.offset, 7);
+        assert_eq!(rt; entry.record.key, None);
+        assert_eq!(rt; entry.failures, 1);
+        assert!(rt; !entry.is_busy);
+        assert_eq!(rt; shards.least_ready(0), Some(7));
+        assert!(rt; shards.entry(0, 6).is_none());
+        assert!(rt; shards.entry(1, 7).is_none());
+        assert_eq!(rt; shards.count(0), 1);
+    }
+    Ok(())
+}
+
+#[test]
 fn cut_back_to_each_length(rt: HostRuntime) -> Result<(), Fail> {
     for (len, first, second, third) in [
         (3, Some(4), Some(6), Some(7)),
@@ -97,7 +117,7 @@ fn cut_back_to_each_length(rt: HostRuntime) -> Result<(), Fail> {
     ] {
         let mut shards = Shards::new(rt.alloc(), Order::Key);
         shards.add_all(0, &[(4, Some(b"a")), (6, None), (7, Some(b"a"))])?;
-        shards.cut(0, len);
+        shards.truncate(0, len);
         let least = busy_next(&mut shards);
         assert_eq!(rt; least, first);
         assert_eq!(rt; busy_next(&mut shards), second);
@@ -124,6 +144,23 @@ fn three(
     shards.add(0, 1, second)?;
     shards.add(0, 2, third)?;
     Ok(shards)
+}
+
+/// Part 0 with the offset 7.
+fn one(alloc: Global, order: Order) -> Result<Shards<'static>, AllocError>
+    ensures { IfOk result (λ shards.
+        of_part shards 0 ≡ new_entry (bare_record 7 None) ∷ []) }
+{
+    let mut shards = Shards::new(alloc, order);
+    shards.add(0, 7, None)?;
+    Ok(shards)
+}
+
+/// Counts one failure of the only record.
+fn fail_once(shards: &mut Shards<'_>)
+    requires { of_part shards.old 0 ≡ new_entry (bare_record 7 None) ∷ [] }
+{
+    shards.fail(0, 7);
 }
 
 /// Makes the least ready offset of part 0 busy.

@@ -11,7 +11,7 @@ returns-in_default g c = record {
       jobs c.args.hand.now c.args.act
       (moment (g.L.Link.store c.args.engine.now.link) (g.L.Link.faults c.args.engine.now.link)) has
       c.in_default.not-Assign c.in_default.not-Commit c.in_default.not-Poll
-      c.in_default.not-Take c.in_default.not-End c.in_default.not-Revoke c.in_default.not-Lose
+      c.in_default.not-Take c.in_default.not-End c.in_default.not-Tick c.in_default.not-Revoke c.in_default.not-Lose
       c.in_default.not-Crash;
   keeps = λ told. stores_only-same _ _ _ refl;
   given = refl;
@@ -30,6 +30,10 @@ returns-in-Commit-clause-effect g c =
 pub returns-in-Poll-clause-effect : goal.returns-in-Poll-clause-effect
 returns-in-Poll-clause-effect g c =
     rw c.in-Poll.is (c.poll.ensures.effect c.args.hand.now)
+
+pub returns-in-Tick-clause-effect : goal.returns-in-Tick-clause-effect
+returns-in-Tick-clause-effect g c =
+    rw c.in-Tick.is (c.tick.ensures.effect c.args.hand.now)
 
 pub returns-in-Revoke-clause-effect : goal.returns-in-Revoke-clause-effect
 returns-in-Revoke-clause-effect g c =

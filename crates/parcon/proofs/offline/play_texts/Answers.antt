@@ -1,6 +1,5 @@
 -- The plan is played, or there is none.
 use Rattle.std.proofs.Common.{Ok, ap, map}
-use Rattle.pc_model.specs.declared.setup.Setup.{Setup}
 use Rattle.parcon.specs.Play.{moment}
 use Rattle.parcon.specs.Reading.{text_of, texts_of}
 use Rattle.parcon.specs.Plan.{lines_behind, logs_of}
@@ -9,12 +8,6 @@ use Rattle.parcon.proofs.ReadingLemmas.{was-read}
 use Rattle.parcon.proofs.PlanLemmas.{texts-rise}
 use Rattle.parcon.proofs.PromiseLemmas.{plays-along, plays-none, status-of}
 use Rattle.parcon.proofs.offline.play_texts.Goals as goal
-
-pub play_setup-requires-clause-order : goal.play_setup-requires-clause-order
-play_setup-requires-clause-order g c = ap (λ (s : Setup). s.settings.order) c.in-Ok.ensures.setup
-
-pub play_setup-requires-clause-fails : goal.play_setup-requires-clause-fails
-play_setup-requires-clause-fails g c = ap (λ (s : Setup). s.settings.rules.fails) c.in-Ok.ensures.setup
 
 pub returns-in-Ok : goal.returns-in-Ok
 returns-in-Ok g c =

@@ -2,8 +2,9 @@
 use Rattle.std.proofs.Common.{◌≡◌, ◌∙◌, ◌++◌, None, Result, Ok, ap, subst, length, map, arith, ℕ}
 use Rattle.pc_offset_client.specs.Client.{kept_for}
 use Rattle.pc_engine.specs.declared.fault.EngineFault.{EngineFault}
-use Rattle.pc_engine.specs.Effect.{next_records, poll_refusal, poll_step}
-use Rattle.pc_engine.specs.Polls.{offset_and_key, plain_next}
+use Rattle.pc_state.specs.Calls.{next_records}
+use Rattle.pc_engine.specs.Effect.{poll_refusal, poll_step}
+use Rattle.pc_batch.specs.Record.{plain}
 use Rattle.pc_engine.proofs.EngineLemmas.{refused-none}
 use Rattle.pc_engine.proofs.EnginePoll.{are-next, free-first, may-poll, polled-keeps, polled-given, polled-does}
 use Rattle.pc_engine.proofs.EngineStep.{given_to}
@@ -19,7 +20,7 @@ poll-requires-clause-next g c =
     let held = (may-poll (given_to c.self.inside.state c.self.inside.journal.events
     (g.L.Link.is_told c.self.inside.client.link) (kept_for (g.L.Link.store c.self.inside.client.link)))
     c.self.inside.journal.events c.args.part inner).held in
-    let next : plain_next c.deref.result.now ≡ map offset_and_key (next_records (given_to c.self.inside.state c.self.inside.journal.events
+    let next : map plain c.deref.result.now ≡ (next_records (given_to c.self.inside.state c.self.inside.journal.events
     (g.L.Link.is_told c.self.inside.client.link) (kept_for (g.L.Link.store c.self.inside.client.link)))
     c.self.inside.journal.events c.args.part c.args.max) = rw c.deref.ensures.value
     (c.in_ok-records.ensures.next (given_to c.self.inside.state c.self.inside.journal.events
@@ -45,7 +46,7 @@ invariant_of-self-2 g c =
     let held = (may-poll (given_to c.self.inside.state c.self.inside.journal.events
     (g.L.Link.is_told c.self.inside.client.link) (kept_for (g.L.Link.store c.self.inside.client.link)))
     c.self.inside.journal.events c.args.part inner).held in
-    let next : plain_next c.deref.result.now ≡ map offset_and_key (next_records (given_to c.self.inside.state c.self.inside.journal.events
+    let next : map plain c.deref.result.now ≡ (next_records (given_to c.self.inside.state c.self.inside.journal.events
     (g.L.Link.is_told c.self.inside.client.link) (kept_for (g.L.Link.store c.self.inside.client.link)))
     c.self.inside.journal.events c.args.part c.args.max) = rw c.deref.ensures.value
     (c.in_ok-records.ensures.next (given_to c.self.inside.state c.self.inside.journal.events
@@ -60,7 +61,7 @@ invariant_of-self-2 g c =
     (g.L.Link.is_told c.self.inside.client.link) (kept_for (g.L.Link.store c.self.inside.client.link)))
     c.self.inside.journal.events c.self.invariant.knows held) in
     let room_left = rw (← c.self.view_is) at c.in_ok-has_room.ensures in
-    let next2 : plain_next c.deref-2.result.now ≡ map offset_and_key (next_records (given_to c.self.inside.state c.self.inside.journal.events
+    let next2 : map plain c.deref-2.result.now ≡ (next_records (given_to c.self.inside.state c.self.inside.journal.events
     (g.L.Link.is_told c.self.inside.client.link) (kept_for (g.L.Link.store c.self.inside.client.link)))
     c.self.inside.journal.events c.args.part c.args.max) = rw c.deref-2.ensures.value
     (c.in_ok-records.ensures.next (given_to c.self.inside.state c.self.inside.journal.events
@@ -92,7 +93,7 @@ returns-clause-effect g c =
     let held = (may-poll (given_to c.self.inside.state c.self.inside.journal.events
     (g.L.Link.is_told c.self.inside.client.link) (kept_for (g.L.Link.store c.self.inside.client.link)))
     c.self.inside.journal.events c.args.part inner).held in
-    let next : plain_next c.deref.result.now ≡ map offset_and_key (next_records (given_to c.self.inside.state c.self.inside.journal.events
+    let next : map plain c.deref.result.now ≡ (next_records (given_to c.self.inside.state c.self.inside.journal.events
     (g.L.Link.is_told c.self.inside.client.link) (kept_for (g.L.Link.store c.self.inside.client.link)))
     c.self.inside.journal.events c.args.part c.args.max) = rw c.deref.ensures.value
     (c.in_ok-records.ensures.next (given_to c.self.inside.state c.self.inside.journal.events
@@ -107,7 +108,7 @@ returns-clause-effect g c =
     (g.L.Link.is_told c.self.inside.client.link) (kept_for (g.L.Link.store c.self.inside.client.link)))
     c.self.inside.journal.events c.self.invariant.knows held) in
     let room_left = rw (← c.self.view_is) at c.in_ok-has_room.ensures in
-    let next2 : plain_next c.deref-2.result.now ≡ map offset_and_key (next_records (given_to c.self.inside.state c.self.inside.journal.events
+    let next2 : map plain c.deref-2.result.now ≡ (next_records (given_to c.self.inside.state c.self.inside.journal.events
     (g.L.Link.is_told c.self.inside.client.link) (kept_for (g.L.Link.store c.self.inside.client.link)))
     c.self.inside.journal.events c.args.part c.args.max) = rw c.deref-2.ensures.value
     (c.in_ok-records.ensures.next (given_to c.self.inside.state c.self.inside.journal.events
@@ -144,7 +145,7 @@ returns-clause-given g c =
     let held = (may-poll (given_to c.self.inside.state c.self.inside.journal.events
     (g.L.Link.is_told c.self.inside.client.link) (kept_for (g.L.Link.store c.self.inside.client.link)))
     c.self.inside.journal.events c.args.part inner).held in
-    let next : plain_next c.deref.result.now ≡ map offset_and_key (next_records (given_to c.self.inside.state c.self.inside.journal.events
+    let next : map plain c.deref.result.now ≡ (next_records (given_to c.self.inside.state c.self.inside.journal.events
     (g.L.Link.is_told c.self.inside.client.link) (kept_for (g.L.Link.store c.self.inside.client.link)))
     c.self.inside.journal.events c.args.part c.args.max) = rw c.deref.ensures.value
     (c.in_ok-records.ensures.next (given_to c.self.inside.state c.self.inside.journal.events
@@ -159,7 +160,7 @@ returns-clause-given g c =
     (g.L.Link.is_told c.self.inside.client.link) (kept_for (g.L.Link.store c.self.inside.client.link)))
     c.self.inside.journal.events c.self.invariant.knows held) in
     let room_left = rw (← c.self.view_is) at c.in_ok-has_room.ensures in
-    let next2 : plain_next c.deref-2.result.now ≡ map offset_and_key (next_records (given_to c.self.inside.state c.self.inside.journal.events
+    let next2 : map plain c.deref-2.result.now ≡ (next_records (given_to c.self.inside.state c.self.inside.journal.events
     (g.L.Link.is_told c.self.inside.client.link) (kept_for (g.L.Link.store c.self.inside.client.link)))
     c.self.inside.journal.events c.args.part c.args.max) = rw c.deref-2.ensures.value
     (c.in_ok-records.ensures.next (given_to c.self.inside.state c.self.inside.journal.events

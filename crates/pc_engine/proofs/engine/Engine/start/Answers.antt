@@ -9,13 +9,13 @@ pub invariant_of-result : goal.invariant_of-result
 invariant_of-result g c =
     rw (c.new-2.ensures.empty, c.new-3.ensures) (IsEngine-start c.args.setup.now c.args.logs.now
     (g.L.Link.is_told c.args.link) (kept_for (g.L.Link.store c.args.link)) c.in-Ok.state
-    c.in-Ok.ensures.knows c.requires.order c.requires.fails c.new-2.result.room)
+    c.in-Ok.ensures.knows c.new-2.result.room)
 
 pub returns-clause-given : goal.returns-clause-given
 returns-clause-given g c = rw (c.new-2.ensures.empty, c.new-3.ensures)
     (start-given c.args.setup.now c.args.logs.now
     (g.L.Link.is_told c.args.link) (kept_for (g.L.Link.store c.args.link)) c.in-Ok.state
-    c.in-Ok.ensures.knows c.requires.order c.requires.fails)
+    c.in-Ok.ensures.knows)
 
 pub returns-in_default-clause-legal : goal.returns-in_default-clause-legal
 returns-in_default-clause-legal g c = c.new.ensures.legal (given_by c.args.setup.now c.args.logs.now []

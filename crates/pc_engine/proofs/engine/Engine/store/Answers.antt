@@ -1,17 +1,13 @@
 -- The link and the journal take the commit in, or the journal alone.
-use Rattle.std.proofs.Common.{◌≡◌, ◌≤◌, ◌∙◌, None, true, Result, Err, ap, refl, subst, arith, inr}
+use Rattle.std.proofs.Common.{◌≡◌, ◌∙◌, None, true, Err, ap, refl, subst, arith}
 use Rattle.std.proofs.lemmas.Result.{err_from_is_err_and}
-use Rattle.pc_world.specs.World.{HasRisen}
 use Rattle.pc_model.specs.Given.{has_log}
 use Rattle.pc_model.specs.Known.{commit_of}
-use Rattle.pc_offset_client.specs.declared.fault.ClientFault.{ClientFault}
 use Rattle.pc_offset_client.specs.Client.{kept_for}
-use Rattle.pc_engine.specs.declared.engine.Committed.{Committed}
 use Rattle.pc_engine.specs.declared.fault.EngineFault.{EngineFault}
-use Rattle.pc_engine.specs.declared.fault.EngineFault.TheVariants.{Client}
-use Rattle.pc_engine.specs.Effect.{Does, IsStored, StoresOnly, commit_refusal, commit_step}
-use Rattle.pc_engine.proofs.EngineCommit.{commit-gives, commit-small, committed-given, committed-keeps, failed-does, failed-given, failed-keeps}
-use Rattle.pc_engine.proofs.EngineLemmas.{commit-unmade, kept_for-accepts, may_commit, may_keep-failed, same-failure, small-map, stores_only-accepts, stores_only-failed}
+use Rattle.pc_engine.specs.Effect.{StoresOnly, commit_refusal}
+use Rattle.pc_engine.proofs.EngineCommit.{commit-small, committed-given, committed-keeps, failed-given, failed-keeps}
+use Rattle.pc_engine.proofs.EngineLemmas.{commit-unmade, kept_for-accepts, may_commit, may_keep-failed, small-map, stores_only-accepts, stores_only-failed}
 use Rattle.pc_engine.proofs.EngineStep.{given_to}
 use Rattle.pc_engine.proofs.engine.Engine.store.Goals as goal
 

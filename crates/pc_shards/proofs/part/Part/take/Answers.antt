@@ -17,9 +17,9 @@ pub returns-clause-key : goal.returns-clause-key
 returns-clause-key c =
     let es = c.args.self.now.entries.items in
     let d = c.remove-entry.result in
-    subst (λ (x : EntryRef). EachAt c.args.offset (plain_entries es) (λ e. e.key
-    ≡ option_copied x.key))
+    subst (λ (x : EntryRef). EachAt c.args.offset (plain_entries es) (λ e. e.record.key
+    ≡ option_copied x.record.key))
     (sym c.remove-entry.ensures.value) (each-at c.args.offset es c.place-at.result d
-    (λ e. e.key ≡ option_copied (get_or es c.place-at.result d).key) c.requires.rises
+    (λ e. e.record.key ≡ option_copied (get_or es c.place-at.result d).record.key) c.requires.rises
     c.place-at.ensures.within
     (c.place-at.ensures.place d) refl)

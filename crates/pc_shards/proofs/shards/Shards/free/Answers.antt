@@ -1,12 +1,12 @@
 -- The part's state is that of the entries of which one is free.
 use Rattle.std.proofs.Common.{false}
 use Rattle.pc_shards.specs.Entries.{with_busy}
-use Rattle.pc_shards.proofs.ShardsLemmas.{changes-set, found, found-holds, free-place, shards-free, view-changed}
+use Rattle.pc_shards.proofs.ShardsLemmas.{changes-set, free-place, shards-free, there, there-holds, view-there}
 use Rattle.pc_shards.proofs.shards.Shards.free.Goals as goal
 
 pub free-requires-clause-holds : goal.free-requires-clause-holds
-free-requires-clause-holds c = found-holds c.self.inside.order c.self.inside.parts.items c.args.part
-    c.args.offset c.index_mut.result.now (found c.self.inside.order c.self.inside.queues
+free-requires-clause-holds c = there-holds c.self.inside.order c.self.inside.parts.items c.args.part
+    c.args.offset c.index_mut.result.now (there c.self.inside.order c.self.inside.queues
     c.self.inside.parts.items c.args.part c.args.offset c.index_mut.result.now c.self.invariant
     (rw (← c.self.view_is) at c.requires) c.index_mut.ensures.value)
 
@@ -14,14 +14,14 @@ pub free-requires-clause-room : goal.free-requires-clause-room
 free-requires-clause-room c = free-place c.self.inside.order c.self.inside.queues
     c.self.inside.parts.items
     c.args.part c.args.offset c.index_mut.result.now c.index_mut.result.now c.self.invariant
-    (found c.self.inside.order c.self.inside.queues
+    (there c.self.inside.order c.self.inside.queues
     c.self.inside.parts.items c.args.part c.args.offset c.index_mut.result.now c.self.invariant
     (rw (← c.self.view_is) at c.requires) c.index_mut.ensures.value)
 
 pub invariant_of-self : goal.invariant_of-self
 invariant_of-self c = shards-free c.self.inside.order c.self.inside.queues c.self.inside.parts.items
     c.args.part c.args.offset c.index_mut.result.now c.free.new.self c.self.invariant
-    (found c.self.inside.order c.self.inside.queues c.self.inside.parts.items
+    (there c.self.inside.order c.self.inside.queues c.self.inside.parts.items
     c.args.part c.args.offset c.index_mut.result.now c.self.invariant (rw
     (← c.self.view_is) at c.requires)
     c.index_mut.ensures.value) c.free.ensures.entries c.free.ensures.ready c.free.ensures.same
@@ -29,9 +29,9 @@ invariant_of-self c = shards-free c.self.inside.order c.self.inside.queues c.sel
 
 pub returns-clause-free : goal.returns-clause-free
 returns-clause-free c = rw (← c.self.view_is)
-    (view-changed c.self.inside.order c.self.inside.parts.items
+    (view-there c.self.inside.order c.self.inside.parts.items
     c.args.part c.args.offset c.index_mut.result.now c.free.new.self
-    (found c.self.inside.order c.self.inside.queues c.self.inside.parts.items
+    (there c.self.inside.order c.self.inside.queues c.self.inside.parts.items
     c.args.part c.args.offset c.index_mut.result.now c.self.invariant (rw
     (← c.self.view_is) at c.requires)
     c.index_mut.ensures.value) (with_busy c.args.offset false) c.free.ensures.entries)

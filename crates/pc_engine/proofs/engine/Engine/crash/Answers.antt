@@ -1,0 +1,16 @@
+-- A crash is lawful.
+use Rattle.pc_offset_client.specs.Client.{kept_for}
+use Rattle.pc_engine.proofs.EngineRelease.{crashed-keeps}
+use Rattle.pc_engine.proofs.engine.Engine.crash.Goals as goal
+
+pub invariant_of-self-2 : goal.invariant_of-self-2
+invariant_of-self-2 g c =
+    let knows = c.self.invariant.knows in
+    crashed-keeps c.self.inside.state c.self.inside.journal.events
+    (g.L.Link.is_told c.self.inside.client.link)
+    (kept_for (g.L.Link.store c.self.inside.client.link))
+    c.self.inside.journal.room c.self.invariant c.crash.new.self c.reserve.new.self.events
+    c.push.new.self.events c.reserve.new.self.room c.push.new.self.room c.outstanding.result _
+    (rw (← c.self.view_is) at c.in_ok-has_room.ensures) (c.crash.ensures _ _ knows)
+    c.in_ok-reserve.ensures.events c.push.ensures.events (c.outstanding.ensures _ _ knows)
+    c.in_ok-reserve.ensures.room c.push.ensures.room

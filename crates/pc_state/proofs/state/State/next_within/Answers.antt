@@ -1,0 +1,31 @@
+-- Each turn asks the first of the parts that are left.
+use Rattle.std.proofs.Common.{◌+◌, ◌-◌, ℕ, Option, ap, refl, sym, ◌∙◌}
+use Rattle.std.specs.List.{range_with_len}
+use Rattle.std.specs.Option.{option_map, option_or}
+use Rattle.pc_model.specs.Numbers.{first_some}
+use Rattle.pc_model.specs.Next.{next_of_part}
+use Rattle.pc_state.proofs.NextLemmas.{first-empty, first-step}
+use Rattle.pc_state.proofs.state.State.next_within.Goals as goal
+
+pub loop-part-init : goal.loop-part-init
+loop-part-init c = λ given h knows le. refl
+
+pub returns-in-Some : goal.returns-in-Some
+returns-in-Some c = λ given h knows le. sym (c.loop-part.invariant given h knows le
+    ∙ first-step (next_of_part given h) c.loop-part.part c.args.to c.loop-part-test.true
+    ∙ ap (λ (o : Option ℕ). option_or (option_map (λ n. (c.loop-part.part, n)) o)
+    (first_some (next_of_part given h) (range_with_len (c.loop-part.part + 1)
+    (c.args.to - (c.loop-part.part + 1)))))
+    (sym (c.in-Some.ensures given h knows)))
+
+pub loop-part-preserved : goal.loop-part-preserved
+loop-part-preserved c = λ given h knows le. c.loop-part.invariant given h knows le
+    ∙ first-step (next_of_part given h) c.loop-part.part c.args.to c.loop-part-test.true
+    ∙ ap (λ (o : Option ℕ). option_or (option_map (λ n. (c.loop-part.part, n)) o)
+    (first_some (next_of_part given h) (range_with_len (c.loop-part.part + 1)
+    (c.args.to - (c.loop-part.part + 1)))))
+    (sym (c.in_default.ensures given h knows))
+
+pub returns : goal.returns
+returns c = λ given h knows le. sym (c.loop-part.invariant given h knows le
+    ∙ first-empty (next_of_part given h) c.loop-part.part c.args.to c.loop-part-test.false)

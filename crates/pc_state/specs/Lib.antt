@@ -1,0 +1,4 @@
+pub mod OpenJobs
+pub mod Calls
+pub mod Polls
+pub mod State

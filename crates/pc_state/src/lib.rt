@@ -1,0 +1,17 @@
+//! The state of a history: what is kept of it, so that the next event is found without reading it
+//! again. `Knows` says of which history a state is; each change says of which event it is the change.
+#![tactic(auto)]
+
+mod dispatch;
+mod epochs;
+mod jobs;
+mod part;
+mod polls;
+mod results;
+mod retries;
+mod state;
+
+pub use jobs::{OpenJob, OpenJobs};
+pub use part::{HeldPart, PartState};
+pub use retries::ready_after;
+pub use state::State;
