@@ -9,5 +9,6 @@ mod PlanLemmas
 mod HandLemmas
 mod CallLemmas
 mod PlayLemmas
+mod StartLemmas
 mod PromiseLemmas
 mod ToldLemmas

@@ -1,6 +1,5 @@
 -- From the bytes of the files to the logs and the lines.
 use Rattle.std.proofs.Common.{◌≡◌, ◌≤◌, ◌<◌, ◌+◌, inl, inr, ℕ, Bool, true, false, cond, List, [], ◌∷◌, ◌++◌, map, length, Option, Some, None, Result, Ok, Err, refl, ap, sym, subst, ◌∙◌, append_assoc, arith, suc, ltb, leb, set, replicate, ◌-◌, take, drop, get_or}
-use Rattle.std.specs.List.{list_all}
 use Rattle.std.specs.Prelude.{◌&&◌, ok_or, unwrap_or}
 use Rattle.std.proofs.lemmas.Bool.{cases_Bool, leb-true, lt-ltb, ltb-true, ltb-false}
 use Rattle.std.proofs.lemmas.List.{append-nil, map-append}
@@ -22,7 +21,7 @@ use Rattle.pc_broker_log.specs.declared.fault.AddFault.TheVariants.{NoMemory, To
 use Rattle.pc_broker_log.specs.Logs.{add_refusal, log_at, record_total, with_log}
 use Rattle.parcon.specs.declared.status.Status.TheVariants.{Limit, Usage}
 use Rattle.parcon.specs.declared.status.LimitKind.TheVariants.{LogBytes, Records}
-use Rattle.parcon.specs.Plan.{AddsLog, IsOverfull, checked_logs, few_records, log_of, log_or_status, logs_of, logs_read, logs_with}
+use Rattle.parcon.specs.Plan.{all_rise, AddsLog, IsOverfull, checked_logs, few_records, log_of, log_or_status, logs_of, logs_read, logs_with}
 use Rattle.parcon.proofs.ListLemmas.{map-around, map-next}
 use Rattle.parcon.proofs.ReadingLemmas.{joined, joined-none, joined-more}
 
@@ -62,13 +61,13 @@ both false b first others = cc
 
 -- the offsets of each log rise
 pub texts-rise : (texts : List FileText)
-    → list_all (λ log. rises_from 0 (unwrap_or log [])) (logs_of texts) ≡ true
+    → all_rise (logs_of texts) ≡ true
 texts-rise [] = refl
 texts-rise (text ∷ texts) = both (rises_from 0 (all_records text.bytes)) _
     (read-rise text.bytes (all_batches text.bytes) refl) (texts-rise texts)
 
 pub logs-rise : (reads : List FileRead)
-    → list_all (λ log. rises_from 0 (unwrap_or log [])) (logs_read reads) ≡ true
+    → all_rise (logs_read reads) ≡ true
 logs-rise [] = refl
 logs-rise (read ∷ reads) = both (rises_from 0 (unwrap_or (log_of read.answer) [])) _
     (rise read.answer) (logs-rise reads)

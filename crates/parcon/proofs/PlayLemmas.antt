@@ -31,7 +31,7 @@ use Rattle.parcon.proofs.CallLemmas.{aborted-same}
 use Rattle.parcon.proofs.HandLemmas.{expects-start}
 use Rattle.pc_script.specs.PlayScript.{ArePlayable, IsPlayable}
 use Rattle.pc_task.specs.Jobs.{PlainJob}
-use Rattle.parcon.specs.Promise.{IsKept, default_setup, default_in_range}
+use Rattle.parcon.specs.Promise.{IsKept}
 
 false-not-true : false ≡ true → ⊥
 false-not-true is = true-not-false true refl (sym is)
@@ -290,9 +290,17 @@ same-setup v w same a =
     (λ b. ap (setup_with v) (Bool-set (is_none (settings_fault v)) true a b))
 
 -- a setup has no more than its settings
-pub default-is : (s : Setup) → s.settings ≡ default_settings → s ≡ default_setup
+pub same-settings : (s s' : Setup) → s.settings ≡ s'.settings → s ≡ s'
 unfolding setup_with
-default-is s same = same-setup s.settings default_settings same s.in_range default_in_range
+same-settings s s' same = same-setup s.settings s'.settings same s.in_range s'.in_range
+
+pub default_in_range : IsTrue (is_none (settings_fault default_settings))
+unfolding settings_fault
+default_in_range = refl
+
+-- some setup, where nothing is asked of it
+abbrev pub default_setup : Setup
+default_setup = record { settings = default_settings; in_range = default_in_range }
 
 -- ---- before any line
 

@@ -1,6 +1,6 @@
 -- The promise from what the steps of a play answered.
 use Rattle.std.proofs.Common.{◌≡◌, ◌⊎◌, inl, inr, ℕ, List, [], ◌++◌, length, Option, Result, Ok, Err, refl, ap, sym, subst, ◌∙◌, arith}
-use Rattle.std.specs.Prelude.{MatchResult}
+use Rattle.std.specs.Prelude.{Bool, true, MatchResult}
 use Rattle.std.proofs.lemmas.List.{append-nil, take_all}
 use Rattle.pc_model.specs.Broker.{Broker}
 use Rattle.pc_offset_client.specs.Client.{kept_for}
@@ -17,19 +17,23 @@ use Rattle.pc_laws.proofs.OrderlyLaw.{is_orderly}
 use Rattle.pc_script.specs.declared.play.PlayLine.{PlayLine}
 use Rattle.parcon.specs.declared.remark.Remark.{Remark}
 use Rattle.parcon.specs.declared.status.Status.{Status}
-use Rattle.parcon.specs.declared.status.Status.TheVariants.{Whole, NoMemory}
+use Rattle.parcon.specs.declared.status.Status.TheVariants.{LinkFault, Whole, NoMemory}
 use Rattle.parcon.specs.Command.{files_of}
 use Rattle.parcon.specs.Reading.{◌>>=◌, FileTexts, IsFromFiles}
-use Rattle.parcon.specs.Plan.{lines_behind, lines_to_play, logs_of, logs_read}
+use Rattle.parcon.specs.Plan.{Planned, all_rise, logs_of, logs_read, plan_behind, plan_to_play}
+use Rattle.parcon.specs.Starts.{Begins, Sends, Sent, SendsStarts}
+use Rattle.pc_model.specs.declared.outcome.Start.{Start}
+use Rattle.pc_offset_client.specs.declared.fault.ClientFault.{ClientFault}
+use Rattle.pc_offset_client.specs.declared.fault.ClientFault.TheVariants as client
 use Rattle.parcon.specs.Play.{IsAborted, Moment, IsPlayed, Play, PlaysTo, start}
-use Rattle.parcon.specs.Ending.{fault_line, output_of, play_text, text_with, wanted_status}
+use Rattle.parcon.specs.Ending.{client_status, fault_line, output_of, play_text, text_with, wanted_status}
 use Rattle.parcon.specs.Written.{HasFront, IsWritten, with_bytes}
-use Rattle.parcon.specs.Promise.{Ends, FilesSeen, IsCall, IsKept, Outside, Plays, default_setup, given_of, link_at}
+use Rattle.parcon.specs.Promise.{Ends, FilesSeen, IsCall, IsCarriedOut, IsKept, Outside, Plays, given_of, link_at, with_link}
 use Rattle.parcon.proofs.CallLemmas.{aborted-same}
 use Rattle.parcon.proofs.WrittenLemmas.{front-none, unchanged, with_bytes-none}
 use Rattle.parcon.proofs.ReadingLemmas.{any-answers, status-is}
 use Rattle.parcon.proofs.PlanLemmas.{files-logs, logs-read-are, logs-rise}
-use Rattle.parcon.proofs.PlayLemmas.{kept-at-start, plays-nowhere}
+use Rattle.parcon.proofs.PlayLemmas.{default_setup, kept-at-start, plays-nowhere}
 
 whole-no-line : fault_line Whole ≡ []
 unfolding fault_line
@@ -176,36 +180,132 @@ plays-none setup logs lines before after s status h legal same is none written m
     plays-kept (given_by setup logs [] before.is_told (kept_for before.store)) lines before after
     status h []
     (subst (λ (b : Broker). IsKept (given_by setup logs [] before.is_told (kept_for before.store))
-    before.store b []) (sym (ap (λ (m : Moment). m.store) same)) (kept-at-start setup logs before.is_told before.store legal))
+    before.store b []) (sym (ap (λ (m : Moment). m.store) same)) (kept-at-start setup logs
+    before.is_told before.store legal))
     none
     (ends-unplayed (given_by setup logs [] before.is_told (kept_for before.store)) before after
     lines s status h is none same written memory)
 
--- a play with the same setup, logs and lines
-pub plays-along : (setup setup' : Setup) (logs logs' : List (Option (List Record)))
-    (lines lines' : Result (List PlayLine) Status) (before after : Outside) (status : Status)
-    (h : List Event) → setup ≡ setup' → logs ≡ logs' → lines ≡ lines'
-    → Plays (given_by setup logs [] before.is_told (kept_for before.store)) lines before after
-    status h
-    → Plays (given_by setup' logs' [] before.is_told (kept_for before.store)) lines' before after
-    status h
-plays-along setup setup' logs logs' lines lines' before after status h set are lines_are plays =
-    subst (λ (s : Setup). Plays (given_by s logs' [] before.is_told (kept_for before.store)) lines'
-    before after status h) set
-    (subst (λ (l : List (Option (List Record))).
-    Plays (given_by setup l [] before.is_told (kept_for before.store)) lines' before after status h)
-    are
-    (subst (λ (l : Result (List PlayLine) Status).
-    Plays (given_by setup logs [] before.is_told (kept_for before.store)) l before after status h)
-    lines_are plays))
+-- a plan that is not carried out: nothing was sent, and nothing was played
+pub carried-none : (logs : List (Option (List Record))) (plan : Result Planned Status)
+    (before after : Outside) (s status : Status) (h : List Event) → all_rise logs ≡ true
+    → link_at after ≡ link_at before → (s ≡ NoMemory) ⊎ (plan ≡ Err s) → h ≡ []
+    → IsWritten before.written after.written before.write_faults after.write_faults
+    (fault_line s) s status → (s ≡ NoMemory → status ≡ NoMemory)
+    → IsCarriedOut logs plan before after status h
+carried-none logs plan before after s status h rise same (inl wanting) none written memory =
+    inl (record {
+      memory = memory wanting;
+      nothing = none;
+      link = same;
+      written = unchanged before.written after.written s wanting written.front;
+    })
+carried-none logs plan before after s status h rise same (inr is) none written memory =
+    subst (λ (p : Result Planned Status). IsCarriedOut logs p before after status h) (sym is)
+    (inr (record {
+      setup = default_setup;
+      setup_is = tt;
+      answer = Ok tt;
+      between = link_at before;
+      begins = record {
+        count = 0;
+        last = link_at before;
+        sends = (refl, refl);
+        all = λ not. refl;
+        end = λ not. refl;
+        stopped = aborted-same before.is_told (link_at before) (link_at before) refl;
+      };
+      plays = plays-none default_setup logs (Err s) before after s status h rise same (inr refl)
+          none
+          written memory;
+    }))
 
--- what a step with a status says of the lines
-pub status-of : {A : Type 0} (lines : Result (List PlayLine) Status) (s : Status)
+-- ---- the starts were sent
+
+-- all that were to be sent
+all-begin : (told : Bool) (starts : List Start) (m n : Moment) (answer : Sent) (status : Status)
+    → SendsStarts told starts m n answer → Begins told starts m n answer status
+all-begin told starts m n answer status sends = record {
+  count = length starts;
+  last = n;
+  sends = subst (λ (ss : List Start). SendsStarts told ss m n answer)
+      (sym (take_all (length starts) starts (omega arith))) sends;
+  all = λ not. take_all (length starts) starts (omega arith);
+  end = λ not. refl;
+  stopped = aborted-same told n n refl;
+}
+
+module _ (setup : Setup) (logs : List (Option (List Record))) (lines : List PlayLine)
+    (before : Outside) (between : Moment) (after : Outside) (status : Status) (h : List Event) where
+  -- all were stored, and the lines were played
+  pub carried-played : SendsStarts before.is_told setup.settings.starts (link_at before) between (Ok
+      tt)
+      → Plays (given_of setup logs before.is_told between.store) (Ok lines)
+      (with_link before between) after status h
+      → IsCarriedOut logs (Ok (record { settings = setup.settings; lines = lines })) before after
+      status h
+  carried-played sends plays = inr (record {
+    setup = setup;
+    setup_is = refl;
+    answer = Ok tt;
+    between = between;
+    begins = all-begin before.is_told setup.settings.starts (link_at before) between (Ok tt) status
+        sends;
+    plays = plays;
+  })
+
+  -- one was not stored, or memory ran out
+  pub carried-unsent : (fault : ClientFault)
+      → Sends before.is_told setup.settings.starts (link_at before) between (Err fault)
+      → all_rise logs ≡ true → link_at after ≡ between → h ≡ []
+      → IsWritten before.written after.written before.write_faults after.write_faults
+      (fault_line (client_status fault)) (client_status fault) status
+      → (client_status fault ≡ NoMemory → status ≡ NoMemory)
+      → IsCarriedOut logs (Ok (record { settings = setup.settings; lines = lines })) before after
+      status h
+  carried-unsent client.NoMemory sends rise same none written memory = inr (record {
+    setup = setup;
+    setup_is = refl;
+    answer = Ok tt;
+    between = between;
+    begins = record {
+      count = sends.count;
+      last = sends.last;
+      sends = sends.sends;
+      all = λ not. absurd (not (memory refl));
+      end = λ not. absurd (not (memory refl));
+      stopped = sends.stopped;
+    };
+    plays = plays-none setup logs (Ok lines) (with_link before between) after NoMemory status h rise
+        same (inl refl) none written memory;
+  })
+  carried-unsent fault sends rise same none written memory = inr (record {
+    setup = setup;
+    setup_is = refl;
+    answer = Err fault;
+    between = between;
+    begins = all-begin before.is_told setup.settings.starts (link_at before) between (Err fault)
+        status sends;
+    plays = plays-none setup logs (Err (LinkFault fault)) (with_link before between) after
+        (LinkFault fault) status h rise same (inr refl) none written memory;
+  })
+
+-- what a step with a status says of the plan
+pub status-of : {A : Type 0} (plan : Result Planned Status) (s : Status)
     → ◌≡◌ {A = Result A Status} (Err s) (Err NoMemory)
-    ⊎ ◌≡◌ {A = Result (List PlayLine) Status} (Err s) lines
-    → (s ≡ NoMemory) ⊎ (lines ≡ Err s)
-status-of lines s (inl is) = inl (status-is s NoMemory is)
-status-of lines s (inr is) = inr (sym is)
+    ⊎ ◌≡◌ {A = Result Planned Status} (Err s) plan
+    → (s ≡ NoMemory) ⊎ (plan ≡ Err s)
+status-of plan s (inl is) = inl (status-is s NoMemory is)
+status-of plan s (inr is) = inr (sym is)
+
+-- a plan with the same logs
+pub carried-along : (logs logs' : List (Option (List Record))) (plan plan' : Result Planned Status)
+    (before after : Outside) (status : Status) (h : List Event) → logs ≡ logs' → plan ≡ plan'
+    → IsCarriedOut logs plan before after status h → IsCarriedOut logs' plan' before after status h
+carried-along logs logs' plan plan' before after status h are is carried =
+    subst (λ (p : Result Planned Status). IsCarriedOut logs' p before after status h) is
+    (subst (λ (l : List (Option (List Record))). IsCarriedOut l plan before after status h) are
+    carried)
 
 -- ---- a call of the program
 
@@ -213,18 +313,16 @@ module _ (words : List (List ℕ)) (files files' : FilesSeen) (before after : Ou
   -- the files were read, and this came of them
   pub call-played : (texts : FileTexts) (status : Status) (h : List Event)
       → IsFromFiles words files.contents files.faults files'.faults (Ok texts)
-      → Plays (given_of (logs_of texts.logs) before.is_told before.store) (lines_behind texts)
-      before after status h
+      → IsCarriedOut (logs_of texts.logs) (plan_behind texts) before after status h
       → IsCall words files files' before after status h
-  call-played texts status h from plays = record {
+  call-played texts status h from carried = record {
     reads = from.reads;
     answers = from.answers;
-    plays = plays-along default_setup default_setup (logs_of texts.logs)
-        (logs_read from.reads.logs) (lines_behind texts) (lines_to_play words from.reads) before
-        after status h refl
+    carried_out = carried-along (logs_of texts.logs) (logs_read from.reads.logs)
+        (plan_behind texts) (plan_to_play words from.reads) before after status h
         (sym (logs-read-are 0 from.reads.logs texts.logs
         (files-logs words from.reads texts from.texts)))
-        (sym (ap (λ (r : Result FileTexts Status). r >>= lines_behind) from.texts)) plays;
+        (sym (ap (λ (r : Result FileTexts Status). r >>= plan_behind) from.texts)) carried;
   }
 
   -- the files were not read, or memory was wanting for it
@@ -240,15 +338,15 @@ module _ (words : List (List ℕ)) (files files' : FilesSeen) (before after : Ou
       record {
         reads = any.0;
         answers = any.1;
-        plays = plays-none default_setup (logs_read any.0.logs) (lines_to_play words any.0) before
-            after s status h (logs-rise any.0.logs) same (inl (status-is s NoMemory is)) none
-            written memory;
+        carried_out = carried-none (logs_read any.0.logs) (plan_to_play words any.0) before after s
+            status h (logs-rise any.0.logs) same (inl (status-is s NoMemory is)) none written
+            memory;
       }
   call-unplayed s status h (inr from) same none written memory = record {
     reads = from.reads;
     answers = from.answers;
-    plays = plays-none default_setup (logs_read from.reads.logs) (lines_to_play words from.reads)
-        before after s status h (logs-rise from.reads.logs) same
-        (inr (ap (λ (r : Result FileTexts Status). r >>= lines_behind) from.texts)) none written
+    carried_out = carried-none (logs_read from.reads.logs) (plan_to_play words from.reads) before
+        after s status h (logs-rise from.reads.logs) same
+        (inr (ap (λ (r : Result FileTexts Status). r >>= plan_behind) from.texts)) none written
         memory;
   }

@@ -137,7 +137,8 @@ each-append told a c (r ∷ reads) more each last =
     (each.0, each-append told a c reads more each.1 last)
 
 pub answers-later : (names : List (List ℕ)) (told : List ℕ → Option (List ℕ))
-    (a b c : List ℕ → ℕ) (reads : List FileRead) → IsLater a b → IsLater b c → AreLogAnswers names told a b reads
+    (a b c : List ℕ → ℕ) (reads : List FileRead) → IsLater a b → IsLater b c
+    → AreLogAnswers names told a b reads
     → AreLogAnswers names told a c reads
 answers-later names told a b c reads le more are = record {
   named = are.named;

@@ -1,7 +1,7 @@
 -- A play over files and a link that tell what they hold, where nothing fails, is decided by its
 -- inputs.
 use Rattle.std.proofs.Common.{◌≡◌, ◌⊎◌, ◌≤◌, ◌+◌, inl, inr, ℕ, ◌-◌, Bool, true, false, ◌&&◌, cond, List, [], ◌∷◌, map, length, Option, Some, None, Result, Ok, Err, refl, ap, sym, subst, ◌∙◌, arith, true≢false}
-use Rattle.std.specs.Prelude.{ℤ, bytes_eq, is_none, nat_lt, not, ok_or, unwrap_or, pos, negsuc, if◌then◌else◌, ◌^◌}
+use Rattle.std.specs.Prelude.{take, IfOk, ℤ, bytes_eq, is_none, nat_lt, not, ok_or, unwrap_or, pos, negsuc, if◌then◌else◌, ◌^◌}
 use Rattle.std.specs.List.{AllByRecursion}
 use Rattle.std.specs.Ordering.{int_eq}
 use Rattle.std.proofs.lemmas.Bool.{cases_Bool, lt-ltb, ltb-true}
@@ -31,13 +31,17 @@ use Rattle.parcon.specs.Command.{Command, PlayFiles, command_of, files_in, files
 use Rattle.parcon.specs.Command.Command.{Play as PlayOf}
 use Rattle.parcon.specs.Reading.{◌>>=◌, AreAnswers, FileRead, IsAnswer, IsConfigAnswer, command_answered, ReadAnswer, Reads}
 use Rattle.parcon.specs.Reading.ReadAnswer.{Bytes, Failed, TooLong}
-use Rattle.parcon.specs.Plan.{lines_behind, lines_to_play, logs_read}
+use Rattle.parcon.specs.Plan.{Planned, logs_read, plan_behind, plan_to_play}
+use Rattle.parcon.specs.Starts.{SendsStart, SendsStarts, Sent, commit_at}
+use Rattle.pc_model.specs.declared.outcome.Start.{Start}
+use Rattle.pc_model.specs.declared.setup.Setup.{Setup}
 use Rattle.parcon.specs.Play.{Asked, Asks, Entry, Fetches, LineStep, Moment, Play, PlaysTo, Stores, Trace, Unless, after_line, after_step, call_notice, done_by, start, step_of}
 use Rattle.parcon.specs.Ending.{lines_in, output_of, wanted_status}
 use Rattle.parcon.specs.Written.{with_bytes}
-use Rattle.parcon.specs.Promise.{Ends, FilesSeen, IsCall, Outside, given_of, link_at}
-use Rattle.parcon.specs.Told.{AreTold, EndsAlike, IsFaultless, IsTold, IsToldCall, Serves, ToldPlay, answer_told, asks_link, failure_count, fetched_from, has_failed, is_accepted, store_told, store_unless, store_with, stored_by, told_answer, told_config, IsConfigTold, told_end, told_lines, told_play, told_reads}
+use Rattle.parcon.specs.Promise.{CarriesOut, Ends, FilesSeen, IsCall, IsCarriedOut, Outside, given_of, lines_after, link_at, starts_in, with_link}
+use Rattle.parcon.specs.Told.{AreTold, EndsAlike, IsFaultless, IsTold, IsToldCall, IsToldPlay, Serves, end_told, lines_told, told_logs, told_plan, told_starts, ToldPlay, answer_told, asks_link, failure_count, fetched_from, has_failed, is_accepted, store_told, store_unless, store_with, stored_by, told_answer, told_config, IsConfigTold, told_play, told_reads}
 use Rattle.parcon.proofs.ReadingLemmas.{risen-earlier, risen-later}
+use Rattle.parcon.proofs.PlayLemmas.{same-settings}
 
 cond-true : {A : Type 0} (b : Bool) (x y : A) → b ≡ true → cond b x y ≡ x
 cond-true b x y is = rw is refl
@@ -72,7 +76,8 @@ stored-is : (b b' : Broker) (p : ℕ) (c : StoredCommit) (asked : Asked)
     → (asked ≡ Err client.NoMemory → ⊥)
     → (done_by asked ≡ done_by (stored_by b p c)) × (b' ≡ store_with b p c)
 stored-is b b' p c (Ok x) gives failed forgot =
-    let is : is_accepted b p c ≡ true = (Decides-int_eq (commit_code b p c) NO_ERROR).1 gives.code in (
+    let is : is_accepted b p c ≡ true = (Decides-int_eq (commit_code b p c) NO_ERROR).1 gives.code
+    in (
       ap done_by (sym (cond-true (is_accepted b p c) _ _ is)),
       gives.stored ∙ sym (cond-true (is_accepted b p c) _ _ is),
     )
@@ -286,16 +291,16 @@ config-told contents f f' None x is tells calm = is
 config-told contents f f' (Some name) x is tells calm =
     answer-told (contents name) (f name) (f' name) x tells is (calm name)
 
--- what words say of the lines and the logs of reads
-abbrev lines_by : Option Command → Reads → Result (List PlayLine) Status
-lines_by o reads = ok_or o status.Usage >>= (λ command. command_answered command reads)
-    >>= lines_behind
+-- what words say of the plan of reads
+abbrev plan_by : Option Command → Reads → Result Planned Status
+plan_by o reads = ok_or o status.Usage >>= (λ command. command_answered command reads)
+    >>= plan_behind
 
 -- the reads of the files that words name, where these are told
 record AreToldReads (words : List (List ℕ)) (contents : List ℕ → Option (List ℕ)) (reads : Reads)
     : Type 0 where
   logs : logs_read reads.logs ≡ logs_read (told_reads words contents).logs
-  lines : lines_to_play words reads ≡ lines_to_play words (told_reads words contents)
+  plan : plan_to_play words reads ≡ plan_to_play words (told_reads words contents)
 
 reads-told : (words : List (List ℕ)) (contents : List ℕ → Option (List ℕ)) (f f' : List ℕ → ℕ)
     (reads : Reads) → AreAnswers (files_of words) contents f f' reads
@@ -316,8 +321,8 @@ reads-told words contents f f' reads are told calm =
             name = name;
             answer = told_answer (contents name);
           })) no_logs));
-          lines = ap (λ (o : Option Command). lines_by o reads) is
-              ∙ sym (ap (λ (o : Option Command). lines_by o (told_reads words contents)) is);
+          plan = ap (λ (o : Option Command). plan_by o reads) is
+              ∙ sym (ap (λ (o : Option Command). plan_by o (told_reads words contents)) is);
         }
     by (Some (PlayOf files)) is tells =
         let named : files_of words ≡ files = ap files_in is in
@@ -342,7 +347,7 @@ reads-told words contents f f' reads are told calm =
         record { config = told_all.config; logs = told_all.logs; script = x }) script in
         record {
           logs = ap (λ (r : Reads). logs_read r.logs) same;
-          lines = ap (lines_to_play words) same;
+          plan = ap (plan_to_play words) same;
         }
 
 -- ---- a whole call
@@ -351,21 +356,136 @@ memory_or_not : (s : Status) → (s ≡ status.NoMemory) ⊎ (s ≡ status.NoMem
 memory_or_not status.NoMemory = inl refl
 memory_or_not s = inr (λ is. cc)
 
+-- ---- the starts
+
+as_asked : Sent → Asked
+as_asked (Ok done) = Ok no_commit
+as_asked (Err fault) = Err fault
+
+asked-is : (answer : Sent) → done_by (as_asked answer) ≡ answer
+unfolding as_asked
+asked-is (Ok done) = refl
+asked-is (Err fault) = refl
+
+start-told : (s : Start) (m n : Moment) (answer : Sent) → SendsStart true s m n answer
+    → (HasRisen m.faults n.faults → ⊥)
+    → (answer ≡ done_by (stored_by m.store s.part (commit_at s)))
+    × (n.store ≡ store_with m.store s.part (commit_at s))
+start-told s m n answer sends calm =
+    let same = asked-is answer in
+    let is = stored-is m.store n.store s.part (commit_at s) (as_asked answer)
+    (subst (λ (a : Sent). CommitGives m.store n.store s.part (commit_at s) a) (sym same)
+    (sends.stored.gives refl))
+    (λ (e : as_asked answer ≡ Err client.LinkFailed).
+    calm (sends.stored.cause (sym same ∙ ap done_by e)))
+    (λ (e : as_asked answer ≡ Err client.NoMemory). sends.answered (sym same ∙ ap done_by e)) in
+    (sym same ∙ is.0, is.1)
+
+sends-later : (told : Bool) (starts : List Start) (m n : Moment) (answer : Sent)
+    → SendsStarts told starts m n answer → m.faults ≤ n.faults
+sends-later told [] m n answer sends =
+    subst (λ (k : Moment). m.faults ≤ k.faults) (sym sends.1) (omega arith)
+sends-later told (s ∷ starts) m n answer (inl (fault, is, sends)) = sends.later
+sends-later told (s ∷ starts) m n answer (inr (next, first, more)) =
+    let a = first.later in
+    let b = sends-later told starts next n answer more in
+    omega (arith, a, b)
+
+-- what was answered and what is stored is what the broker's steps say
+abbrev AreToldStarts : List Start → Broker → Broker → Sent → Type 0
+AreToldStarts starts b b' answer = (answer ≡ (told_starts starts b).answer)
+    × (b' ≡ (told_starts starts b).store)
+
+stopped-told : (s : Start) (starts : List Start) (b b' : Broker) (fault : ClientFault)
+    → ◌≡◌ {A = Sent} (Err fault) (done_by (stored_by b s.part (commit_at s)))
+    → b' ≡ store_with b s.part (commit_at s) → AreToldStarts (s ∷ starts) b b' (Err fault)
+unfolding told_starts
+stopped-told s starts b b' fault = by (is_accepted b s.part (commit_at s))
+  where
+    by : (t : Bool)
+        → ◌≡◌ {A = Sent} (Err fault) (done_by (cond t (Ok no_commit) (Err (client.Refused
+        (commit_code b s.part (commit_at s))))))
+        → b' ≡ cond t (with_commit b s.part (commit_at s)) b
+        → (◌≡◌ {A = Sent} (Err fault) (cond t (told_starts starts (with_commit b s.part (commit_at
+        s)))
+        (record {
+          answer = Err (client.Refused (commit_code b s.part (commit_at s)));
+          store = b;
+        })).answer)
+        × (b' ≡ (cond t (told_starts starts (with_commit b s.part (commit_at s)))
+        (record {
+          answer = Err (client.Refused (commit_code b s.part (commit_at s)));
+          store = b;
+        })).store)
+    by true is same = absurd (never is)
+      where
+        never : ◌≡◌ {A = Sent} (Err fault) (Ok tt) → ⊥
+        never e = cc
+    by false is same = (is, same)
+
+next-told : (s : Start) (starts : List Start) (b next b' : Broker) (answer : Sent)
+    → ◌≡◌ {A = Sent} (Ok tt) (done_by (stored_by b s.part (commit_at s)))
+    → next ≡ store_with b s.part (commit_at s) → AreToldStarts starts next b' answer
+    → AreToldStarts (s ∷ starts) b b' answer
+unfolding told_starts
+next-told s starts b next b' answer = by (is_accepted b s.part (commit_at s))
+  where
+    by : (t : Bool)
+        → ◌≡◌ {A = Sent} (Ok tt) (done_by (cond t (Ok no_commit) (Err (client.Refused (commit_code b
+        s.part (commit_at s))))))
+        → next ≡ cond t (with_commit b s.part (commit_at s)) b
+        → AreToldStarts starts next b' answer
+        → (answer ≡ (cond t (told_starts starts (with_commit b s.part (commit_at s)))
+        (record {
+          answer = Err (client.Refused (commit_code b s.part (commit_at s)));
+          store = b;
+        })).answer)
+        × (b' ≡ (cond t (told_starts starts (with_commit b s.part (commit_at s)))
+        (record {
+          answer = Err (client.Refused (commit_code b s.part (commit_at s)));
+          store = b;
+        })).store)
+    by true is same rest = subst (λ (k : Broker). AreToldStarts starts k b' answer) same rest
+    by false is same rest = absurd (never is)
+      where
+        never : ◌≡◌ {A = Sent} (Ok tt) (Err (client.Refused (commit_code b s.part (commit_at s))))
+            → ⊥
+        never e = cc
+
+sends-told : (starts : List Start) (m n : Moment) (answer : Sent)
+    → SendsStarts true starts m n answer → (HasRisen m.faults n.faults → ⊥)
+    → AreToldStarts starts m.store n.store answer
+unfolding told_starts
+sends-told [] m n answer sends calm = (sends.0, ap (λ (k : Moment). k.store) sends.1)
+sends-told (s ∷ starts) m n answer (inl (fault, is, sends)) calm =
+    let told = start-told s m n (Err fault) sends calm in
+    subst (λ (a : Sent). AreToldStarts (s ∷ starts) m.store n.store a) (sym is)
+    (stopped-told s starts m.store n.store fault told.0 told.1)
+sends-told (s ∷ starts) m n answer (inr (next, first, more)) calm =
+    let later = sends-later true starts next n answer more in
+    let told = start-told s m next (Ok tt) first
+    (λ rose. calm (risen-later m.faults next.faults n.faults first.later later rose)) in
+    next-told s starts m.store next.store n.store answer told.0 told.1
+    (sends-told starts next n answer more
+    (λ rose. calm (risen-earlier m.faults next.faults n.faults first.later rose)))
+
+-- ---- the lines behind the starts
+
 -- a play ended as these inputs alone decide
-record IsToldEnd (given : Given) (lines : Result (List PlayLine) Status) (before after : Outside)
-    (s : Status) (history : List Event) : Type 0 where
+record IsToldEnd (given : Given) (lines : Result (List PlayLine) Status) (store store' : Broker)
+    (written written' : Option (List ℕ)) (s : Status) (history : List Event) : Type 0 where
   status_is : s ≡ wanted_status lines
-  history_is : history ≡ (told_play given start before.store (lines_in lines)).play.history
-  store_is : after.store ≡ (told_play given start before.store (lines_in lines)).store
-  written_is : after.written ≡ with_bytes before.written (output_of (wanted_status lines)
-      (told_play given start before.store (lines_in lines)).play)
+  history_is : history ≡ (told_play given start store (lines_in lines)).play.history
+  store_is : store' ≡ (told_play given start store (lines_in lines)).store
+  written_is : written' ≡ with_bytes written (output_of (wanted_status lines)
+      (told_play given start store (lines_in lines)).play)
 
 -- a play that was not cut short is such
 ends-told : (given : Given) (lines : Result (List PlayLine) Status) (before after : Outside)
     (s : Status) (history : List Event) → Ends given lines before after s history
     → before.is_told ≡ true → (HasRisen before.link_faults after.link_faults → ⊥)
     → (HasRisen before.write_faults after.write_faults → ⊥) → (s ≡ status.NoMemory → ⊥)
-    → IsToldEnd given lines before after s history
+    → IsToldEnd given lines before.store after.store before.written after.written s history
 ends-told given lines before after s history ends tells calls writes not =
     let plays : PlaysTo before.is_told given start (link_at before) (lines_in lines) ends.play
     ends.last = subst (λ (ls : List PlayLine). PlaysTo before.is_told given start (link_at before)
@@ -392,6 +512,67 @@ ends-told given lines before after s history ends tells calls writes not =
           with_bytes before.written (output_of (wanted_status lines) t.play)) (sym end);
     }
 
+-- the count of a play that went through did not fall
+ends-later : (given : Given) (lines : Result (List PlayLine) Status) (before after : Outside)
+    (s : Status) (history : List Event) → Ends given lines before after s history
+    → (s ≡ status.NoMemory → ⊥) → before.link_faults ≤ after.link_faults
+ends-later given lines before after s history ends not =
+    let later = trace-later before.is_told given start ends.play (link_at before) ends.last
+    (take ends.count (lines_in lines)) ends.plays.entries ends.plays.trace in
+    subst (λ (m : Moment). before.link_faults ≤ m.faults) (sym (ends.end not)) later
+
+-- ---- a whole call
+
+carried-told : (logs : List (Option (List Record))) (plan : Result Planned Status)
+    (before after : Outside) (s : Status) (history : List Event)
+    → CarriesOut logs plan before after s history → before.is_told ≡ true
+    → (HasRisen before.link_faults after.link_faults → ⊥)
+    → (HasRisen before.write_faults after.write_faults → ⊥) → (s ≡ status.NoMemory → ⊥)
+    → IsToldPlay logs plan before after s history
+carried-told logs plan before after s history carries tells calls writes not =
+    let begins = carries.begins in
+    let starts = starts_in plan in
+    let all : SendsStarts before.is_told starts (link_at before) begins.last carries.answer =
+    subst (λ (ss : List Start). SendsStarts before.is_told ss (link_at before) begins.last
+    carries.answer) (begins.all not) begins.sends in
+    let sent : SendsStarts true starts (link_at before) carries.between carries.answer =
+    subst (λ (m : Moment). SendsStarts true starts (link_at before) m carries.answer)
+    (sym (begins.end not))
+    (subst (λ (b : Bool). SendsStarts b starts (link_at before) begins.last carries.answer) tells
+    all) in
+    let first = sends-later true starts (link_at before) carries.between carries.answer sent in
+    let last = ends-later (given_of carries.setup logs before.is_told carries.between.store)
+    (lines_after carries.answer plan) (with_link before carries.between) after s history
+    carries.plays.ends not in
+    let told = sends-told starts (link_at before) carries.between carries.answer sent
+    (λ rose. calls (risen-later before.link_faults carries.between.faults after.link_faults first
+    last rose)) in
+    let end = ends-told (given_of carries.setup logs before.is_told carries.between.store)
+    (lines_after carries.answer plan) (with_link before carries.between) after s history
+    carries.plays.ends tells
+    (λ rose. calls (risen-earlier before.link_faults carries.between.faults after.link_faults first
+    rose)) writes not in
+    let begin = told_starts starts before.store in
+    let at_told = subst (λ (b : Bool). IsToldEnd
+    (given_of carries.setup logs b carries.between.store) (lines_after carries.answer plan)
+    carries.between.store after.store before.written after.written s history) tells end in
+    let at_store = subst (λ (b : Broker). IsToldEnd (given_of carries.setup logs true b)
+    (lines_after carries.answer plan) b after.store before.written after.written s history) told.1
+    at_told in
+    let at : IsToldEnd (given_of carries.setup logs true begin.store)
+    (lines_after begin.answer plan) begin.store after.store before.written after.written s history
+    = subst (λ (a : Sent). IsToldEnd (given_of carries.setup logs true begin.store)
+    (lines_after a plan) begin.store after.store before.written after.written s history) told.0
+    at_store in
+    record {
+      setup = carries.setup;
+      setup_is = carries.setup_is;
+      status_is = at.status_is;
+      history_is = at.history_is;
+      store_is = at.store_is;
+      written_is = at.written_is;
+    }
+
 pub call-told : (words : List (List ℕ)) (files files' : FilesSeen) (before after : Outside)
     (s : Status) (history : List Event) → IsCall words files files' before after s history
     → AreTold (command_of words) files.contents → before.is_told ≡ true
@@ -403,66 +584,72 @@ call-told words files files' before after s history call told tells faultless =
       | inr not ↦
           let are = reads-told words files.contents files.faults files'.faults call.reads
           call.answers told faultless.reads in
-          let end = ends-told (given_of (logs_read call.reads.logs) before.is_told before.store)
-          (lines_to_play words call.reads) before after s history call.plays.ends tells
-          faultless.calls faultless.writes not in
-          let at_lines : IsToldEnd
-          (given_of (logs_read call.reads.logs) before.is_told before.store)
-          (told_lines words files) before after s history =
-          subst (λ (ls : Result (List PlayLine) Status). IsToldEnd
-          (given_of (logs_read call.reads.logs) before.is_told before.store) ls before after s
-          history) are.lines end in
-          let at_logs : IsToldEnd
-          (given_of (logs_read (told_reads words files.contents).logs) before.is_told before.store)
-          (told_lines words files) before after s history =
-          subst (λ (logs : List (Option (List Record))). IsToldEnd
-          (given_of logs before.is_told before.store) (told_lines words files) before after s
-          history) are.logs at_lines in
-          let at : IsToldEnd
-          (given_of (logs_read (told_reads words files.contents).logs) true before.store)
-          (told_lines words files) before after s history =
-          subst (λ (b : Bool). IsToldEnd
-          (given_of (logs_read (told_reads words files.contents).logs) b before.store)
-          (told_lines words files) before after s history) tells at_logs in
-          inr (record {
-            status_is = at.status_is;
-            history_is = at.history_is;
-            store_is = at.store_is;
-            written_is = at.written_is;
-          })
+          let carried : IsCarriedOut (told_logs words files) (told_plan words files) before after s
+          history = subst (λ (p : Result Planned Status). IsCarriedOut (told_logs words files) p
+          before after s history) are.plan
+          (subst (λ (logs : List (Option (List Record))). IsCarriedOut logs
+          (plan_to_play words call.reads) before after s history) are.logs call.carried_out) in
+          elim carried [
+            | inl gives_up ↦ inl gives_up.memory
+            | inr carries ↦ inr (carried-told (told_logs words files) (told_plan words files)
+                before after s history carries tells faultless.calls faultless.writes not)
+          ]
     ]
 
+-- where a plan leads does not depend on the setup beyond the plan's settings
+ends-same : (setup setup2 : Setup) (logs : List (Option (List Record)))
+    (plan : Result Planned Status) (store : Broker) → IfOk plan (λ p. setup.settings ≡ p.settings)
+    → IfOk plan (λ p. setup2.settings ≡ p.settings)
+    → end_told setup logs plan store ≡ end_told setup2 logs plan store
+unfolding told_play
+ends-same setup setup2 logs (Ok p) store is is2 =
+    ap (λ (x : Setup). end_told x logs (Ok p) store) (same-settings setup setup2 (is ∙ sym is2))
+ends-same setup setup2 logs (Err s) store is is2 = refl
+
+-- two plays with the same inputs
+plays-alike : (logs : List (Option (List Record))) (plan : Result Planned Status)
+    (before before2 after after2 : Outside) (s s2 : Status) (history history2 : List Event)
+    → before.store ≡ before2.store → before.written ≡ before2.written
+    → IsToldPlay logs plan before after s history
+    → IsToldPlay logs plan before2 after2 s2 history2
+    → EndsAlike after after2 s s2 history history2
+plays-alike logs plan before before2 after after2 s s2 history history2 store written first second =
+    record {
+      status_is = first.status_is ∙ ap (λ (b : Broker). wanted_status (lines_told plan b)) store
+          ∙ sym second.status_is;
+      history_is = first.history_is ∙ ap (λ (t : ToldPlay). t.play.history) end
+          ∙ sym second.history_is;
+      store_is = first.store_is ∙ ap (λ (t : ToldPlay). t.store) end ∙ sym second.store_is;
+      written_is = first.written_is
+          ∙ ap (λ (w : Option (List ℕ)). with_bytes w
+          (output_of (wanted_status (lines_told plan before.store))
+          (end_told first.setup logs plan before.store).play)) written
+          ∙ ap (λ (b : Broker). with_bytes before2.written
+          (output_of (wanted_status (lines_told plan b))
+          (end_told first.setup logs plan before.store).play)) store
+          ∙ ap (λ (t : ToldPlay). with_bytes before2.written
+          (output_of (wanted_status (lines_told plan before2.store)) t.play)) end
+          ∙ sym second.written_is;
+    }
+  where
+    end : end_told first.setup logs plan before.store
+        ≡ end_told second.setup logs plan before2.store
+    end = ap (end_told first.setup logs plan) store
+        ∙ ends-same first.setup second.setup logs plan before2.store first.setup_is second.setup_is
+
 -- two calls with the same told inputs
-pub calls-alike : (words : List (List ℕ)) (files files2 : FilesSeen)
+calls-alike : (words : List (List ℕ)) (files files2 : FilesSeen)
     (before before2 after after2 : Outside) (s s2 : Status) (history history2 : List Event)
     → files.contents ≡ files2.contents → before.store ≡ before2.store
     → before.written ≡ before2.written → IsToldCall words files before after s history
     → IsToldCall words files2 before2 after2 s2 history2
     → EndsAlike after after2 s s2 history history2
 calls-alike words files files2 before before2 after after2 s s2 history history2 same store written
-    first second = record {
-      status_is = first.status_is ∙ ap wanted_status lines ∙ sym second.status_is;
-      history_is = first.history_is ∙ ap (λ (t : ToldPlay). t.play.history) end
-          ∙ sym second.history_is;
-      store_is = first.store_is ∙ ap (λ (t : ToldPlay). t.store) end ∙ sym second.store_is;
-      written_is = first.written_is
-          ∙ ap (λ (w : Option (List ℕ)). with_bytes w (output_of (wanted_status (told_lines words files))
-          (told_end words files before.store).play)) written
-          ∙ ap (λ (l : Result (List PlayLine) Status). with_bytes before2.written
-          (output_of (wanted_status l) (told_end words files before.store).play)) lines
-          ∙ ap (λ (t : ToldPlay). with_bytes before2.written
-          (output_of (wanted_status (told_lines words files2)) t.play)) end
-          ∙ sym second.written_is;
-    }
-  where
-    lines : told_lines words files ≡ told_lines words files2
-    lines = ap (λ (c : List ℕ → Option (List ℕ)). lines_to_play words (told_reads words c)) same
-
-    end : told_end words files before.store ≡ told_end words files2 before2.store
-    end = ap (λ (c : List ℕ → Option (List ℕ)). told_play
-        (given_of (logs_read (told_reads words c).logs) true before.store) start before.store
-        (lines_in (lines_to_play words (told_reads words c)))) same
-        ∙ ap (told_end words files2) store
+    first second = plays-alike (told_logs words files) (told_plan words files) before before2 after
+    after2 s s2 history history2 store written first
+    (subst (λ (c : List ℕ → Option (List ℕ)). IsToldPlay
+    (logs_read (told_reads words c).logs) (plan_to_play words (told_reads words c)) before2 after2
+    s2 history2) (sym same) second)
 
 pub calls-determined : (words : List (List ℕ)) (files files' files2 files2' : FilesSeen)
     (before after before2 after2 : Outside) (s s2 : Status) (history history2 : List Event)
@@ -515,10 +702,12 @@ line-rose told given h (Assign p) m e asks =
     unless-rose (assign_refusal given h p) (Fetches told p m e) e.asked m e.after
     (λ a is. a.fetched.cause is) asks
 line-rose told given h (Commit p) m e asks =
-    unless-rose (commit_refusal given h p) (Stores told p (commit_of given h p).commit m e) e.asked m
+    unless-rose (commit_refusal given h p) (Stores told p (commit_of given h p).commit m e) e.asked
+    m
     e.after (λ a is. a.stored.cause (ap done_by is)) asks
 line-rose told given h (Revoke p) m e asks =
-    unless-rose (revoke_refusal given h p) (Stores told p (commit_of given h p).commit m e) e.asked m
+    unless-rose (revoke_refusal given h p) (Stores told p (commit_of given h p).commit m e) e.asked
+    m
     e.after (λ a is. a.stored.cause (ap done_by is)) asks
 line-rose told given h act m e asks = λ is. absurd (true≢false (sym is))
 
@@ -549,4 +738,5 @@ failures-counted told given s t m n (line ∷ lines) (e ∷ entries) trace =
     (asks-later told given s.history line.act m e trace.0)
     (trace-later told given (after_line given s line e.asked) t e.after n lines entries trace.1)
     (line-rose told given s.history line.act m e trace.0)
-    (failures-counted told given (after_line given s line e.asked) t e.after n lines entries trace.1)
+    (failures-counted told given (after_line given s line e.asked) t e.after n lines entries
+    trace.1)

@@ -314,7 +314,8 @@ module _ (rows : List Row) (word : Text) where
   named-walked pending false is named bare = rw (is.not_end, is.long, named, bare) refl
 
   -- where the file of the configuration is due
-  pub due-plain-turn : IsPlain word → turn_fault top [] (walk_at rows due (option CONFIG) false) word ≡
+  pub due-plain-turn : IsPlain word → turn_fault top [] (walk_at rows due (option CONFIG) false)
+      word ≡
       []
   due-plain-turn is = rw (is.not_end, is.long, is.short) refl
 
@@ -326,7 +327,8 @@ module _ (rows : List Row) (word : Text) where
   unfolding walked
   due-plain-walked is = rw (is.not_end, is.long, is.short) refl
 
-  pub due-end-turn : IsEnd word → turn_fault top [] (walk_at rows due (option CONFIG) false) word ≡ []
+  pub due-end-turn : IsEnd word → turn_fault top [] (walk_at rows due (option CONFIG) false) word ≡
+      []
   due-end-turn is = rw is.is refl
 
   pub due-end-walked : IsEnd word
@@ -335,7 +337,8 @@ module _ (rows : List Row) (word : Text) where
   unfolding walked
   due-end-walked is = rw is.is refl
 
-  pub due-long-turn : IsLong word → turn_fault top [] (walk_at rows due (option CONFIG) false) word ≡ []
+  pub due-long-turn : IsLong word → turn_fault top [] (walk_at rows due (option CONFIG) false) word
+      ≡ []
       → ⊥
   due-long-turn is none = go (bytes_eq CONFIG is.name) is.value refl refl none
     where
@@ -354,7 +357,8 @@ module _ (rows : List Row) (word : Text) where
           ∷ [] = rw (is.not_end, is.long, named, valued) refl in
           cc
 
-  pub due-short-turn : IsShort word → turn_fault top [] (walk_at rows due (option CONFIG) false) word ≡
+  pub due-short-turn : IsShort word → turn_fault top [] (walk_at rows due (option CONFIG) false)
+      word ≡
       [] → ⊥
   unfolding flags_fault
   due-short-turn is none =
@@ -379,6 +383,7 @@ module _ (rows : List Row) (word : Text) where
   behind-walked (a_file v) waiting = refl
   behind-walked (a_config v) waiting = refl
 
-  pub due-behind-turn : (waiting : Waiting) → turn_fault top [] (walk_at rows due waiting true) word ≡
+  pub due-behind-turn : (waiting : Waiting) → turn_fault top [] (walk_at rows due waiting true) word
+      ≡
       [] → ⊥
   due-behind-turn waiting none = cc

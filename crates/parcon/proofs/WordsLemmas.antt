@@ -188,7 +188,8 @@ module _ (word : Text) (words : List Text) (config : Option Text) (files : List 
           (stage_walk s.config' s.files' s.first' (at_ease (a_file word) true)) _
           (plain-turn (rows_at config files first) word p b is ∙ s.fault)
           (plain-walked (rows_at config files first) word p b is
-          ∙ ap (λ (rows : List Row). walk_at rows (Some (FILES, word ∷ [])) positional false) s.rows)
+          ∙ ap (λ (rows : List Row). walk_at rows (Some (FILES, word ∷ [])) positional false)
+          s.rows)
           (next s.config' s.files' s.first' (at_ease (a_file word) true)))
     ]
 
@@ -283,7 +284,8 @@ module _ (word : Text) (words : List Text) (config : Option Text) (files : List 
     -- the word is no option's, or that of the configuration
     long-agrees : (p : Pending) (b : Bool) (is : IsLong word) → IsNext word words
         → AgreesAt (stage_walk config files first (at_ease p b)) (word ∷ words)
-        (joined config files (with_pending p (by_kind (word_kind word) word words (said_by true words)
+        (joined config files (with_pending p (by_kind (word_kind word) word words (said_by true
+        words)
         (said_by false words))))
     long-agrees p b is next = rw (is.not_end, is.hyphened, is.kind) (go (bytes_eq CONFIG is.name)
         is.value refl refl)
@@ -293,18 +295,21 @@ module _ (word : Text) (words : List Text) (config : Option Text) (files : List 
             (joined config files (with_pending p (by_kind (if t then Config value else Unknown) word
             words (said_by true words) (said_by false words))))
         go false value named valued = none-agrees p b (λ none.
-            let same = unknown-turn (rows_at config files first) word (pending_of p) b is named in cc)
+            let same = unknown-turn (rows_at config files first) word (pending_of p) b is named in
+            cc)
         go true (Some v) named valued = value-agrees p b is v named valued next
         go true None named valued = named-agrees p b is named valued next
 
     ease-agrees : (p : Pending) (b : Bool) → Looks word → IsNext word words
         → AgreesAt (stage_walk config files first (at_ease p b)) (word ∷ words)
-        (joined config files (with_pending p (by_kind (word_kind word) word words (said_by true words)
+        (joined config files (with_pending p (by_kind (word_kind word) word words (said_by true
+        words)
         (said_by false words))))
     ease-agrees p b (inl is) next = rw is.is (end-agrees p b is)
     ease-agrees p b (inr (inl is)) next = rw (is.not_end, is.hyphened) (file-agrees p b is next)
     ease-agrees p b (inr (inr (inl is))) next = long-agrees p b is next
-    ease-agrees p b (inr (inr (inr is))) next = rw (is.not_end, is.hyphened, is.kind) (none-agrees p b
+    ease-agrees p b (inr (inr (inr is))) next = rw (is.not_end, is.hyphened, is.kind) (none-agrees p
+        b
         (λ none.
         let same = short-turn (rows_at config files first) word (pending_of p) b is in cc))
 
@@ -320,14 +325,16 @@ module _ (word : Text) (words : List Text) (config : Option Text) (files : List 
     due-agrees (inr (inl is)) next = rw is.hyphened
         (steps (stage_walk config files first awaiting) word words (stage_walk config files first
         (at_ease (a_config word) false)) _
-        (due-plain-turn (rows_at config files first) word is) (due-plain-walked (rows_at config files
+        (due-plain-turn (rows_at config files first) word is) (due-plain-walked (rows_at config
+        files
         first) word is)
         (next config files first (at_ease (a_config word) false)))
     due-agrees (inr (inr (inl is))) next = rw is.hyphened
         (stumbles (stage_walk config files first awaiting) word words (due-long-turn (rows_at config
         files first) word is))
     due-agrees (inr (inr (inr is))) next = rw is.hyphened
-        (stumbles (stage_walk config files first awaiting) word words (due-short-turn (rows_at config
+        (stumbles (stage_walk config files first awaiting) word words (due-short-turn (rows_at
+        config
         files first) word is))
 
 agrees : (words : List Text) → AllByRecursion IsUtf8 words

@@ -9,7 +9,7 @@ use Rattle.pc_model.specs.declared.limits.TheConstants.{MAX_PARTS}
 
 -- what a word is, where options may still come
 pub data WordKind : Type 0 where
-  -- `--`: the words behind it are files, whatever they look like
+  -- `--`: the words after it are files, whatever they look like
   EndOfOptions : WordKind
   -- `--config`, and the file that it names in the form `--config=FILE`
   Config : Option (List ℕ) → WordKind
@@ -23,7 +23,7 @@ is_hyphened [] = false
 is_hyphened (first ∷ []) = false
 is_hyphened (first ∷ second ∷ rest) = first == 45
 
--- what a word says before its first `=`, and what it says behind it, where it has one
+-- what stands in a word before its first `=`, and what stands after it, if it has one
 abbrev pub option_name : List ℕ → List ℕ
 option_name = before_first (λ b. b == 61)
 

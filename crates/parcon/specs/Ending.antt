@@ -19,6 +19,7 @@ use Rattle.parcon.specs.declared.status.Status.{Status}
 use Rattle.parcon.specs.declared.status.Status.TheVariants as status
 use Rattle.parcon.specs.declared.status.LimitKind.{LimitKind}
 use Rattle.parcon.specs.declared.status.LimitKind.TheVariants.{FileBytes, LogBytes, Records, ScriptLines}
+use Rattle.parcon.specs.ConfigFault.{config_words}
 use Rattle.parcon.specs.LogFault.{log_line, fault_words}
 use Rattle.parcon.specs.Play.{Play}
 
@@ -86,15 +87,22 @@ notice_words Stranger = codes "stranger" ∷ []
 unfoldable pub remark_line : Remark → List ℕ
 remark_line remark = words_at remark.line (notice_words remark.notice)
 
+-- the status of a starting commit that was not stored
+abbrev pub client_status : ClientFault → Status
+client_status client.NoMemory = status.NoMemory
+client_status fault = status.LinkFault fault
+
 -- ---- fault lines, and the numbers of the statuses
 
 abbrev pub status_number : Status → ℕ
 status_number status.Whole = 0
 status_number status.Usage = 1
 status_number (status.ReadFault name) = 2
+status_number (status.BadConfig fault) = 3
 status_number (status.BadLog name place fault) = 4
 status_number (status.BadScript line kind) = 5
 status_number status.SinkFault = 7
+status_number (status.LinkFault fault) = 8
 status_number (status.Limit which number) = 9
 status_number status.NoMemory = 11
 status_number (status.NotBuilt line) = 99
@@ -108,6 +116,10 @@ limit_name ScriptLines = codes "script-lines"
 -- the line of a fault's words, with its line feed
 abbrev pub line_of_words : List (List ℕ) → List ℕ
 line_of_words words = spaced words ++ 10 ∷ []
+
+-- the line of what is wrong with the input
+abbrev pub fault_words_line : List (List ℕ) → List ℕ
+fault_words_line words = line_of_words (codes "fault" ∷ words)
 
 -- the text of a history and of remarks
 abbrev pub text_with : List Event → List Remark → List ℕ
@@ -123,10 +135,12 @@ fault_line status.Whole = []
 fault_line status.Usage = line_of_words (codes "fault" ∷ codes "usage" ∷ [])
 fault_line (status.ReadFault name) =
     line_of_words (codes "fault" ∷ codes "read" ∷ marked name ∷ [])
+fault_line (status.BadConfig fault) = fault_words_line (codes "config" ∷ config_words fault)
 fault_line (status.BadLog name place fault) = log_line name place (fault_words fault)
 fault_line (status.BadScript line kind) =
     line_of_words (codes "fault" ∷ codes "script" ∷ decimal line ∷ kind_text kind ∷ [])
 fault_line status.SinkFault = []
+fault_line (status.LinkFault fault) = fault_words_line (codes "link" ∷ client_words fault)
 fault_line (status.Limit which number) =
     line_of_words (codes "fault" ∷ codes "limit" ∷ limit_name which ∷ decimal number ∷ [])
 fault_line status.NoMemory = []

@@ -5,6 +5,9 @@ pub mod Plan
 pub mod Hand
 pub mod Play
 pub mod LogFault
+pub mod ConfigFault
+pub mod Configuration
+pub mod Starts
 pub mod Ending
 pub mod Written
 pub mod Promise

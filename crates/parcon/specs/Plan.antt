@@ -1,7 +1,9 @@
 -- What is played: the logs of a play's files, and the lines of its script.
-use Rattle.std.specs.Prelude.{ℕ, ◌≡◌, ◌<◌, ◌≤◌, ◌+◌, ◌++◌, length, Bool, true, false, not, nat_lt, List, [], ◌∷◌, map, find, Option, Some, None, option_map, Result, Ok, Err, if◌then◌else◌}
+use Rattle.std.specs.Prelude.{ℕ, ◌≡◌, ◌<◌, ◌≤◌, ◌+◌, ◌++◌, length, Bool, true, false, not, nat_lt, List, [], ◌∷◌, map, find, unwrap_or, Option, Some, None, option_map, Result, Ok, Err, if◌then◌else◌}
 use Rattle.pc_model.specs.declared.limits.TheConstants.{MAX_RECORDS, MAX_SCRIPT_LINES}
+use Rattle.std.specs.List.{list_all}
 use Rattle.pc_model.specs.Record.{Record}
+use Rattle.pc_model.specs.Given.{rises_from}
 use Rattle.pc_script.specs.declared.play.PlayAct.{PlayAct}
 use Rattle.pc_script.specs.declared.play.PlayAct.TheVariants.{Assign, Commit, Poll, Take, End, Tick, Revoke, Lose, Crash}
 use Rattle.pc_script.specs.declared.play.PlayLine.{PlayLine}
@@ -15,6 +17,9 @@ use Rattle.pc_broker_log.specs.Logs.{record_total}
 use Rattle.parcon.specs.declared.status.Status.{Status}
 use Rattle.parcon.specs.declared.status.Status.TheVariants as status
 use Rattle.parcon.specs.declared.status.LimitKind.TheVariants.{Records, ScriptLines}
+use Rattle.pc_model.specs.declared.setup.Settings.{Settings}
+use Rattle.parcon.specs.declared.plan.Plan.{Plan}
+use Rattle.parcon.specs.Configuration.{settings_in}
 use Rattle.parcon.specs.Reading.{◌>>=◌, ReadAnswer, FileRead, FileText, FileTexts, Reads, files_answered}
 use Rattle.parcon.specs.Reading.ReadAnswer.{Bytes, Failed, TooLong}
 
@@ -112,30 +117,35 @@ lines_of_script script =
       lines ← lines_or_status (script_of script)
       built_lines lines (first_unbuilt lines)
 
--- ---- the configuration
-
--- so far nothing is played with a configuration that says anything
-abbrev pub built_config : List ℕ → Result (Unit {0}) Status
-built_config [] = Ok tt
-built_config (b ∷ text) = Err (status.NotBuilt 0)
-
 -- ---- all of them
 
--- the lines that are played over these logs, or the status that ends a play before it: of the
--- configuration, of the logs in order, of the number of their records, of the script, the first that
--- applies
-abbrev pub lines_behind : FileTexts → Result (List PlayLine) Status
-lines_behind texts =
+-- with which settings which lines are played
+pub record Planned : Type 0 where
+  pub settings : Settings
+  pub lines : List PlayLine
+
+-- the play of these texts, or the status that ends it before it begins: of the configuration, of the
+-- logs in order, of the number of their records, and of the script, the first that applies
+abbrev pub plan_behind : FileTexts → Result Planned Status
+plan_behind texts =
     do
-      config ← built_config texts.config
+      settings ← settings_in texts.config
       logs ← checked_logs texts.logs
       few ← few_records (logs_with logs)
-      lines_of_script texts.script
+      lines ← lines_of_script texts.script
+      Ok (record { settings = settings; lines = lines })
 
--- the lines that a play with these words and these reads goes through, or the status that ends it
--- before
-abbrev pub lines_to_play : List (List ℕ) → Reads → Result (List PlayLine) Status
-lines_to_play words reads =
+-- the play that these words and these reads ask for, or the status that ends it before it begins
+abbrev pub plan_to_play : List (List ℕ) → Reads → Result Planned Status
+plan_to_play words reads =
     do
       texts ← files_answered words reads
-      lines_behind texts
+      plan_behind texts
+
+-- what the code keeps of it
+abbrev pub planned : Plan → Planned
+planned plan = record { settings = plan.setup.settings; lines = plan.script }
+
+-- whether the offsets of each log rise
+abbrev pub all_rise : List (Option (List Record)) → Bool
+all_rise logs = list_all (λ log. rises_from 0 (unwrap_or log [])) logs

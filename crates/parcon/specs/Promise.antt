@@ -1,9 +1,8 @@
 -- The promise of the program: how a play ends, whatever its words, files, link and sink are.
-use Rattle.std.specs.Prelude.{ℕ, ◌≡◌, Bool, true, List, [], take, Option, Result, refl, IsTrue, is_none}
+use Rattle.std.specs.Prelude.{ℕ, ◌≡◌, ◌⊎◌, Bool, true, List, [], take, Option, Result, Ok, Err, IfOk}
 use Rattle.pc_model.specs.declared.event.Event.{Event}
+use Rattle.pc_model.specs.declared.outcome.Start.{Start}
 use Rattle.pc_model.specs.declared.setup.Setup.{Setup}
-use Rattle.pc_model.specs.Defaults.{default_settings}
-use Rattle.pc_model.specs.Ranges.{settings_fault}
 use Rattle.pc_model.specs.Given.{Given, has_log}
 use Rattle.pc_model.specs.Lawful.{IsLegal}
 use Rattle.pc_model.specs.Record.{Record}
@@ -16,26 +15,18 @@ use Rattle.pc_script.specs.declared.play.PlayLine.{PlayLine}
 use Rattle.pc_engine.specs.Effect.{StoresOnly}
 use Rattle.pc_engine.specs.Engine.{given_by}
 use Rattle.parcon.specs.declared.status.Status.{Status}
-use Rattle.parcon.specs.declared.status.Status.TheVariants.{NoMemory}
+use Rattle.parcon.specs.declared.status.Status.TheVariants.{LinkFault, NoMemory}
 use Rattle.parcon.specs.Command.{files_of}
 use Rattle.parcon.specs.Reading.{AreAnswers, Reads}
-use Rattle.parcon.specs.Plan.{lines_to_play, logs_read}
+use Rattle.parcon.specs.Plan.{Planned, logs_read, plan_to_play}
+use Rattle.parcon.specs.Starts.{Begins, Sent}
 use Rattle.parcon.specs.Play.{IsAborted, Moment, Play, PlaysTo, start}
 use Rattle.parcon.specs.Ending.{lines_in, output_of, wanted_status}
 use Rattle.parcon.specs.Written.{IsWritten}
 
-pub default_in_range : IsTrue (is_none (settings_fault default_settings))
-unfolding settings_fault
-default_in_range = refl
-
--- the setup of the values that hold where nothing else is said
-abbrev pub default_setup : Setup
-default_setup = record { settings = default_settings; in_range = default_in_range }
-
--- what a play over these logs is given where nothing else is said: that setup, and for its start
--- what the link's broker stores
-abbrev pub given_of : List (Option (List Record)) → Bool → Broker → Given
-given_of logs told store = given_by default_setup logs [] told (kept_for store)
+-- what a play over these logs is given: the setup, and for its start what the link's broker stores
+abbrev pub given_of : Setup → List (Option (List Record)) → Bool → Broker → Given
+given_of setup logs told store = given_by setup logs [] told (kept_for store)
 
 -- the files at a moment: what they hold, as far as it is told, and how often the reads of each name
 -- have failed
@@ -55,6 +46,11 @@ pub record Outside : Type 0 where
 -- the link alone
 abbrev pub link_at : Outside → Moment
 link_at outside = record { store = outside.store; faults = outside.link_faults }
+
+-- the same sink, and the link at another moment
+abbrev pub with_link : Outside → Moment → Outside
+with_link outside link =
+    record outside { store = link.store; link_faults = link.faults }
 
 -- How a play of these lines ends, from the one moment to the other. All of its lines were played,
 -- unless memory ran out; then the first of them were, and the journal and the first bytes of the
@@ -89,14 +85,52 @@ pub record Plays (given : Given) (lines : Result (List PlayLine) Status) (before
   -- the status, the history and the output are those of the play
   pub ends : Ends given lines before after status history
 
+-- the starts that are sent before a play: none where something keeps it from beginning
+abbrev pub starts_in : Result Planned Status → List Start
+starts_in (Ok plan) = plan.settings.starts
+starts_in (Err s) = []
+
+-- the lines that are played once the starts were sent, or the status that ends the play before: that
+-- of the plan, or of the start that was not stored
+abbrev pub lines_after : Sent → Result Planned Status → Result (List PlayLine) Status
+lines_after answer (Err s) = Err s
+lines_after (Ok done) (Ok plan) = Ok plan.lines
+lines_after (Err fault) (Ok plan) = Err (LinkFault fault)
+
+-- How a plan over these logs is carried out: its starts are sent over the link, and if all were
+-- stored its lines are played. The play is given the setup with the plan's settings, and for its
+-- start what the link's broker stores once the starts were sent.
+pub record CarriesOut (logs : List (Option (List Record))) (plan : Result Planned Status)
+    (before after : Outside) (status : Status) (history : List Event) : Type 0 where
+  pub setup : Setup
+  pub setup_is : IfOk plan (λ p. setup.settings ≡ p.settings)
+  -- what came of the starts, and the link after them
+  pub answer : Sent
+  pub between : Moment
+  pub begins : Begins before.is_told (starts_in plan) (link_at before) between answer status
+  pub plays : Plays (given_of setup logs before.is_told between.store) (lines_after answer plan)
+      (with_link before between) after status history
+
+-- memory ran out before anything was sent, played or written
+pub record GivesUp (before after : Outside) (status : Status) (history : List Event) : Type 0 where
+  pub memory : status ≡ NoMemory
+  pub nothing : history ≡ []
+  pub link : link_at after ≡ link_at before
+  pub written : after.written ≡ before.written
+
+abbrev pub IsCarriedOut : List (Option (List Record)) → Result Planned Status → Outside → Outside
+    → Status → List Event → Type 0
+IsCarriedOut logs plan before after status history =
+    GivesUp before after status history ⊎ CarriesOut logs plan before after status history
+
 -- how a call of the program with these words ends: what the reads of its files answered decides
--- which lines are played over which logs, and that is the play
+-- which plan over which logs is carried out
 pub record IsCall (words : List (List ℕ)) (files files' : FilesSeen) (before after : Outside)
     (status : Status) (history : List Event) : Type 0 where
   pub reads : Reads
   pub answers : AreAnswers (files_of words) files.contents files.faults files'.faults reads
-  pub plays : Plays (given_of (logs_read reads.logs) before.is_told before.store)
-      (lines_to_play words reads) before after status history
+  pub carried_out : IsCarriedOut (logs_read reads.logs) (plan_to_play words reads) before after
+      status history
 
 -- a history that is legal, and a link whose broker, where that is told, stores what it may: for a
 -- part with a log one of the commits that may be stored, and else what it stored

@@ -1,11 +1,14 @@
 -- The play over files and a link that tell what they hold, where nothing fails: its inputs alone
 -- decide it.
-use Rattle.std.specs.Prelude.{ℕ, ◌≡◌, ◌<◌, ◌+◌, ◌&&◌, Bool, true, false, List, [], ◌∷◌, map, Option, Some, None, Result, Ok, Err, if◌then◌else◌, is_none, nat_lt, length, pos}
+use Rattle.std.specs.Prelude.{ℕ, ◌≡◌, ◌<◌, ◌+◌, ◌&&◌, Bool, true, false, List, [], ◌∷◌, map, Option, Some, None, Result, Ok, Err, IfOk, if◌then◌else◌, is_none, nat_lt, length, pos}
 use Rattle.std.specs.List.{AllByRecursion}
 use Rattle.std.specs.Ordering.{int_eq}
 use Rattle.pc_model.specs.declared.limits.TheConstants.{MAX_FILE_BYTES}
 use Rattle.pc_model.specs.declared.commit.Commit.{Commit as StoredCommit}
 use Rattle.pc_model.specs.declared.event.Event.{Event}
+use Rattle.pc_model.specs.declared.outcome.Start.{Start}
+use Rattle.pc_model.specs.declared.setup.Setup.{Setup}
+use Rattle.pc_model.specs.Record.{Record}
 use Rattle.pc_model.specs.declared.api.TheConstants.{NO_ERROR, UNKNOWN_TOPIC_OR_PARTITION}
 use Rattle.pc_model.specs.Broker.{Broker, has_part, membership_of}
 use Rattle.pc_model.specs.Given.{Given, no_commit}
@@ -23,11 +26,12 @@ use Rattle.parcon.specs.Command.{Command, files_of}
 use Rattle.parcon.specs.Command.Command.{Play as PlayOf}
 use Rattle.parcon.specs.Reading.{ReadAnswer, Reads}
 use Rattle.parcon.specs.Reading.ReadAnswer.{Bytes, TooLong}
-use Rattle.parcon.specs.Plan.{lines_to_play, logs_read}
+use Rattle.parcon.specs.Plan.{Planned, logs_read, plan_to_play}
+use Rattle.parcon.specs.Starts.{Sent, commit_at}
 use Rattle.parcon.specs.Play.{Asked, Entry, Play, after_line, start}
 use Rattle.parcon.specs.Ending.{lines_in, output_of, wanted_status}
 use Rattle.parcon.specs.Written.{with_bytes}
-use Rattle.parcon.specs.Promise.{FilesSeen, Outside, given_of}
+use Rattle.parcon.specs.Promise.{FilesSeen, Outside, given_of, lines_after, starts_in}
 
 -- ---- the files
 
@@ -110,6 +114,21 @@ pub record Serves (b : Broker) (p : ℕ) : Type 0 where
   pub part : p < b.parts
   pub members : membership_of b GROUP ≡ None
 
+-- ---- the starts
+
+-- what the client is answered to the starts, and what the broker stores then
+pub record ToldStarts : Type 0 where
+  pub answer : Sent
+  pub store : Broker
+
+unfoldable pub told_starts : List Start → Broker → ToldStarts
+told_starts [] b = record { answer = Ok tt; store = b }
+told_starts (s ∷ starts) b = if is_accepted b s.part (commit_at s)
+    then told_starts starts (with_commit b s.part (commit_at s)) else record {
+      answer = Err (Refused (commit_code b s.part (commit_at s)));
+      store = b;
+    }
+
 -- ---- the play
 
 -- where a play stands, and what the broker stores
@@ -132,26 +151,42 @@ pub record IsFaultless (files files' : FilesSeen) (before after : Outside) : Typ
   pub calls : HasRisen before.link_faults after.link_faults → ⊥
   pub writes : HasRisen before.write_faults after.write_faults → ⊥
 
--- the lines of a call, the given of its play, and where they lead
-abbrev pub told_lines : List (List ℕ) → FilesSeen → Result (List PlayLine) Status
-told_lines words files = lines_to_play words (told_reads words files.contents)
+-- the plan of a call, and its logs
+abbrev pub told_plan : List (List ℕ) → FilesSeen → Result Planned Status
+told_plan words files = plan_to_play words (told_reads words files.contents)
 
-abbrev pub told_given : List (List ℕ) → FilesSeen → Broker → Given
-told_given words files store =
-    given_of (logs_read (told_reads words files.contents).logs) true store
+abbrev pub told_logs : List (List ℕ) → FilesSeen → List (Option (List Record))
+told_logs words files = logs_read (told_reads words files.contents).logs
 
-abbrev pub told_end : List (List ℕ) → FilesSeen → Broker → ToldPlay
-told_end words files store =
-    told_play (told_given words files store) start store (lines_in (told_lines words files))
+-- the lines that are played once the starts of a plan were sent, and where they lead
+abbrev pub lines_told : Result Planned Status → Broker → Result (List PlayLine) Status
+lines_told plan store = lines_after (told_starts (starts_in plan) store).answer plan
+
+abbrev pub end_told : Setup → List (Option (List Record)) → Result Planned Status → Broker
+    → ToldPlay
+end_told setup logs plan store =
+    let begin = told_starts (starts_in plan) store in
+    told_play (given_of setup logs true begin.store) start begin.store
+    (lines_in (lines_told plan store))
+
+-- a plan over these logs was carried out as they and the store alone decide
+pub record IsToldPlay (logs : List (Option (List Record))) (plan : Result Planned Status)
+    (before after : Outside) (status : Status) (history : List Event) : Type 0 where
+  -- the setup with the plan's settings
+  pub setup : Setup
+  pub setup_is : IfOk plan (λ p. setup.settings ≡ p.settings)
+  pub status_is : status ≡ wanted_status (lines_told plan before.store)
+  pub history_is : history ≡ (end_told setup logs plan before.store).play.history
+  pub store_is : after.store ≡ (end_told setup logs plan before.store).store
+  pub written_is : after.written ≡ with_bytes before.written
+      (output_of (wanted_status (lines_told plan before.store))
+      (end_told setup logs plan before.store).play)
 
 -- a call ended as its inputs alone decide
-pub record IsToldCall (words : List (List ℕ)) (files : FilesSeen) (before after : Outside)
-    (status : Status) (history : List Event) : Type 0 where
-  pub status_is : status ≡ wanted_status (told_lines words files)
-  pub history_is : history ≡ (told_end words files before.store).play.history
-  pub store_is : after.store ≡ (told_end words files before.store).store
-  pub written_is : after.written ≡ with_bytes before.written (output_of
-      (wanted_status (told_lines words files)) (told_end words files before.store).play)
+abbrev pub IsToldCall : List (List ℕ) → FilesSeen → Outside → Outside → Status → List Event
+    → Type 0
+IsToldCall words files before after status history =
+    IsToldPlay (told_logs words files) (told_plan words files) before after status history
 
 -- two calls ended in the same way
 pub record EndsAlike (after after' : Outside) (status status' : Status)

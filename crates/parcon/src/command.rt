@@ -34,7 +34,7 @@ pub(crate) struct PlayFiles<'a> {
 }
 
 /// The command that the words make: `play [--config FILE] LOG... SCRIPT`, with 1 to 1,024 logs.
-/// `Usage` if they make none; the other error is `NoMemory`.
+/// Fails with `Usage` if they make none, and with `NoMemory` when out of memory.
 pub(crate) fn command_of<'a>(alloc: Global, words: &'a [String]) -> Result<Command<'a>, Status>
     ensures command { (result ≡ Err NoMemory) ⊎ (result_map_both plain_command (λ s. s) result
         ≡ ok_or (command_of (map string_bytes words.now)) Usage) }
@@ -46,7 +46,7 @@ pub(crate) fn command_of<'a>(alloc: Global, words: &'a [String]) -> Result<Comma
     }
 }
 
-/// The play that the words behind `play` ask for.
+/// The play that the words after `play` ask for.
 fn play<'a>(alloc: Global, words: &'a [String]) -> Result<Command<'a>, Status>
     ensures command { (result ≡ Err NoMemory) ⊎ (result_map_both plain_command (λ s. s) result
         ≡ ok_or (option_and_then play_of (said_by false (map string_bytes words.now))) Usage) }
@@ -66,7 +66,7 @@ pub(crate) fn files_of(command: Command<'_>) -> PlayFiles<'_>
     }
 }
 
-/// The play that words ask for which say this.
+/// The play of these files.
 fn play_of(said: Said<'_>) -> Result<Command<'_>, Status>
     ensures command { result_map_both plain_command (λ s. s) result
         ≡ ok_or (play_of (plain_said said.entry)) Usage }

@@ -1,12 +1,14 @@
 //! Fault lines: the last line of the output of a status that is a fault of the input.
 
-ghost use Rattle.std.specs.Prelude.{◌≡◌, ◌++◌, OnOk, OnErr};
-ghost use Rattle.parcon.specs.Ending.{fault_line, limit_name};
+ghost use Rattle.std.specs.Prelude.{◌≡◌, ◌++◌, ◌∷◌, OnOk, OnErr, codes};
+ghost use Rattle.parcon.specs.Ending.{client_words, fault_line, fault_words_line, limit_name};
 ghost use Rattle.parcon.specs.declared.status.Status.TheVariants.{BadScript};
 
+use crate::config_fault::put_config_fault;
 use crate::log_fault::{LogPlace, put_log_fault};
 use crate::status::{LimitKind, Status};
-use pc_print::Word::{Marked, Name, Number};
+use pc_offset_client::ClientFault;
+use pc_print::Word::{Marked, Name, Number, Signed};
 use pc_print::put_line;
 use pc_script::ScriptKind;
 use std::alloc::{AllocError, Global};
@@ -26,6 +28,7 @@ pub(crate) fn put_fault(alloc: Global, out: &mut Vec<u8>, status: &Status) -> Re
             b"fault",
             &[Name(b"read"), Marked(name.as_str().as_bytes())],
         ),
+        Status::BadConfig(fault) => put_config_fault(out, fault),
         Status::BadLog { name, place, fault } => {
             let name = name.as_str().as_bytes();
             put_log_fault(
@@ -38,6 +41,7 @@ pub(crate) fn put_fault(alloc: Global, out: &mut Vec<u8>, status: &Status) -> Re
             )
         }
         Status::BadScript { line, kind } => put_bad_line(alloc, out, *line, *kind),
+        Status::LinkFault(fault) => put_link_fault(out, *fault),
         Status::Limit { which, number } => put_line(
             out,
             b"fault",
@@ -75,4 +79,25 @@ fn put_bad_line(
     let text = format!(in alloc; "{kind}")?;
     let words = [Name(b"script"), Number(line), Name(text.as_bytes())];
     put_line(out, b"fault", &words)
+}
+
+/// Appends the fault line of a starting commit that was not stored.
+fn put_link_fault(out: &mut Vec<u8>, fault: ClientFault) -> Result<(), AllocError>
+    ensures ok { OnOk result (out.new.items
+        ≡ out.old.items ++ fault_words_line (codes "link" ∷ client_words fault)) }
+    ensures err { OnErr result (out.new.items ≡ out.old.items) }
+{
+    match fault {
+        ClientFault::LinkFailed => put_line(out, b"fault", &[Name(b"link"), Name(b"link-failed")]),
+        ClientFault::Refused(code) => put_line(
+            out,
+            b"fault",
+            &[Name(b"link"), Name(b"refused"), Signed(i64::from(code))],
+        ),
+        ClientFault::BadReply(_) => put_line(out, b"fault", &[Name(b"link"), Name(b"bad-reply")]),
+        ClientFault::OtherReply { .. } => {
+            put_line(out, b"fault", &[Name(b"link"), Name(b"other-reply")])
+        }
+        ClientFault::NoMemory => put_line(out, b"fault", &[Name(b"link"), Name(b"no-memory")]),
+    }
 }

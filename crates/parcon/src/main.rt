@@ -5,6 +5,8 @@
 
 mod calls;
 mod command;
+mod config_fault;
+mod configuration;
 mod fault_line;
 mod hand;
 mod laws;
@@ -16,6 +18,7 @@ mod play;
 mod play_setup;
 mod reading;
 mod remark;
+mod starts;
 mod status;
 mod words;
 
@@ -32,6 +35,8 @@ use std::process::ExitCode;
 
 #[cfg(test)]
 mod setup_tests;
+#[cfg(test)]
+mod start_tests;
 #[cfg(test)]
 mod tests;
 

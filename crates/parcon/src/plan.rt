@@ -1,13 +1,13 @@
 //! What is played, or the status that ends a play before it begins.
 
-ghost use Rattle.std.specs.Prelude.{◌≡◌, ◌≤◌, ◌⊎◌, ◌<◌, Err, IfErr, IfOk, OnOk, length, map};
+ghost use Rattle.std.specs.Prelude.{◌≡◌, ◌≤◌, ◌⊎◌, ◌<◌, Err, IfErr, IfOk, OnOk, length, map, true};
 ghost use Rattle.std.specs.Result.{result_map_both};
 ghost use Rattle.pc_cursor.specs.Log.{all_batches, contents_of, records_of};
-ghost use Rattle.parcon.specs.Reading.{config_text, text_of, texts_of};
-ghost use Rattle.parcon.specs.Plan.{AddsLog, IsOverfull, built_config, built_lines, checked_logs, few_records, first_unbuilt, is_built, lines_behind, lines_of_script, log_or_status, logs_of, logs_with};
-ghost use Rattle.parcon.specs.Promise.{default_setup};
+ghost use Rattle.parcon.specs.Reading.{text_of, texts_of};
+ghost use Rattle.parcon.specs.Plan.{AddsLog, IsOverfull, built_lines, checked_logs, few_records, first_unbuilt, is_built, lines_of_script, log_or_status, logs_of, logs_with, plan_behind, planned};
 ghost use Rattle.parcon.specs.declared.status.Status.TheVariants.{NoMemory};
 
+use crate::configuration::setup_in;
 use crate::reading::{LogText, Texts};
 use crate::status::{LimitKind, Status};
 use pc_broker_log::{AddFault, BrokerLogs};
@@ -25,37 +25,24 @@ pub(crate) struct Plan<'a> {
     pub(crate) script: PlayScript,
 }
 
-/// What the texts of a play's files ask for, with the setup that holds where nothing else is said,
-/// or the status that ends the play before it begins: of the configuration, of the logs in order, of
-/// the number of their records, of the script, the first that applies.
+/// What the texts of a play's files ask for, or the status that ends the play before it begins: of
+/// the configuration, of the logs in order, of the number of their records, and of the script, the
+/// first that applies.
 pub(crate) fn plan_of<'a>(alloc: Global, texts: &'a Texts<'_>) -> Result<Plan<'a>, Status>
     requires { length texts.now.logs.items ≤ MAX_PARTS }
-    ensures lines { (result ≡ Err NoMemory)
-        ⊎ (result_map_both (λ plan. plan.script) (λ s. s) result
-        ≡ lines_behind (texts_of texts.now)) }
+    ensures plan { (result ≡ Err NoMemory)
+        ⊎ (result_map_both planned (λ s. s) result ≡ plan_behind (texts_of texts.now)) }
     ensures logs { IfOk result (λ plan. plan.logs ≡ logs_of (map text_of texts.now.logs.items)) }
-    ensures setup { IfOk result (λ plan. plan.setup ≡ default_setup) }
 {
-    built_config(&texts.config)?;
+    let setup = setup_in(alloc, &texts.config)?;
     let checked = checked_logs(alloc, texts.logs.as_slice())?;
     let logs = broker_logs(alloc, checked)?;
     let script = built_script(alloc, texts.script.as_slice())?;
-    let setup = Setup::with_defaults(alloc)?;
     Ok(Plan {
         setup,
         logs,
         script,
     })
-}
-
-/// Refuses a configuration that says anything: so far nothing is played with one.
-fn built_config(config: &Option<Vec<u8>>) -> Result<(), Status>
-    ensures { result ≡ built_config (config_text config.now) }
-{
-    match config {
-        Some(text) if !text.is_empty() => Err(Status::NotBuilt { line: 0 }),
-        _ => Ok(()),
-    }
 }
 
 /// The logs of the texts, which have to read.

@@ -67,7 +67,7 @@ fn read_play<'a, F: Files>(
     })
 }
 
-/// The bytes of the configuration, if a file is named.
+/// The bytes of the configuration's file, if one is named.
 fn read_config<F: Files>(
     alloc: Global,
     files: &mut F,

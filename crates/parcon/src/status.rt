@@ -2,9 +2,11 @@
 
 ghost use Rattle.std.specs.Prelude.{◌≡◌};
 
+use pc_config::ConfigFault;
 use pc_cursor::LogFaultKind;
 use pc_model::NameText;
 use pc_model::limits::MAX_SCRIPT_LINES;
+use pc_offset_client::ClientFault;
 use pc_script::{ScriptKind, ScriptReadFault};
 use std::alloc::{AllocError, AllocFailed};
 
@@ -33,6 +35,8 @@ pub enum Status {
     ReadFault {
         name: NameText,
     },
+    /// The first fault of the configuration.
+    BadConfig(ConfigFault),
     /// The first fault of the log of this file, at the place of the batch that has it.
     BadLog {
         name: NameText,
@@ -46,6 +50,8 @@ pub enum Status {
     },
     /// The output could not be written.
     SinkFault,
+    /// A starting commit got this fault, and nothing was played.
+    LinkFault(ClientFault),
     /// There is more of something than may be: more than this number.
     Limit {
         which: LimitKind,
@@ -73,9 +79,11 @@ impl Status {
             Status::Whole => 0,
             Status::Usage => 1,
             Status::ReadFault { .. } => 2,
+            Status::BadConfig(_) => 3,
             Status::BadLog { .. } => 4,
             Status::BadScript { .. } => 5,
             Status::SinkFault => 7,
+            Status::LinkFault(_) => 8,
             Status::Limit { .. } => 9,
             Status::NoMemory => NO_MEMORY,
             Status::NotBuilt { .. } => 99,
@@ -119,6 +127,32 @@ impl From<ScriptReadFault> for Status {
                 number: MAX_SCRIPT_LINES as u64,
             },
             ScriptReadFault::NoMemory => Status::NoMemory,
+        }
+    }
+}
+
+impl From<ConfigFault> for Status {
+    ghost use Rattle.parcon.specs.Configuration.{config_status};
+
+    ghost from_gives = { λ fault s. s ≡ config_status fault };
+
+    fn from(fault: ConfigFault) -> Status {
+        match fault {
+            ConfigFault::NoMemory => Status::NoMemory,
+            fault => Status::BadConfig(fault),
+        }
+    }
+}
+
+impl From<ClientFault> for Status {
+    ghost use Rattle.parcon.specs.Ending.{client_status};
+
+    ghost from_gives = { λ fault s. s ≡ client_status fault };
+
+    fn from(fault: ClientFault) -> Status {
+        match fault {
+            ClientFault::NoMemory => Status::NoMemory,
+            fault => Status::LinkFault(fault),
         }
     }
 }

@@ -1,4 +1,4 @@
-//! What the words behind a command say, as `clap` reads them.
+//! What the words after a command say, as `clap` reads them.
 
 ghost use Rattle.std.specs.Prelude.{◌≡◌, ◌⊎◌, Err, IfOk, false, map, ok_or, string_bytes, unwrap_or, option_map, codes};
 ghost use Rattle.std.specs.Result.{result_map_both};
@@ -27,8 +27,8 @@ pub(crate) struct Said<'a> {
     pub(crate) files: Vec<&'a str>,
 }
 
-/// What the words say, which are options and files. `Usage` if there is another option, or one twice
-/// or without its file; the other error is `NoMemory`.
+/// What the words say. Fails with `Usage` if an option is unknown, stands twice or lacks its file, and
+/// with `NoMemory` when out of memory.
 pub(crate) fn said_by<'a>(alloc: Global, words: &'a [String]) -> Result<Said<'a>, Status>
     ensures { (result ≡ Err NoMemory) ⊎ (result_map_both plain_said (λ s. s) result
         ≡ ok_or (said_by false (map string_bytes words.now)) Usage) }

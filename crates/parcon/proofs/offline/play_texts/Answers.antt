@@ -1,19 +1,21 @@
--- The plan is played, or there is none.
-use Rattle.std.proofs.Common.{Ok, ap, map}
+-- The plan is carried out, or there is none.
+use Rattle.std.proofs.Common.{◌≡◌, true, Ok, ap, map, subst, sym}
 use Rattle.parcon.specs.Play.{moment}
 use Rattle.parcon.specs.Reading.{text_of, texts_of}
-use Rattle.parcon.specs.Plan.{lines_behind, logs_of}
-use Rattle.parcon.specs.Promise.{default_setup}
+use Rattle.parcon.specs.Plan.{all_rise, logs_of, plan_behind, planned}
 use Rattle.parcon.proofs.ReadingLemmas.{was-read}
 use Rattle.parcon.proofs.PlanLemmas.{texts-rise}
-use Rattle.parcon.proofs.PromiseLemmas.{plays-along, plays-none, status-of}
+use Rattle.parcon.proofs.PromiseLemmas.{carried-along, carried-none, status-of}
 use Rattle.parcon.proofs.offline.play_texts.Goals as goal
+
+pub carry_out-requires : goal.carry_out-requires
+carry_out-requires g c = subst (λ logs. all_rise logs ≡ true)
+    (sym c.in-Ok.ensures.logs) (texts-rise (map text_of c.args.texts.now.logs.items))
 
 pub returns-in-Ok : goal.returns-in-Ok
 returns-in-Ok g c =
-    plays-along c.in-Ok.plan.setup default_setup c.in-Ok.plan.logs
-    (logs_of (map text_of c.args.texts.now.logs.items)) (Ok c.in-Ok.plan.script)
-    (lines_behind (texts_of c.args.texts.now))
+    carried-along c.in-Ok.plan.logs (logs_of (map text_of c.args.texts.now.logs.items))
+    (Ok (planned c.in-Ok.plan)) (plan_behind (texts_of c.args.texts.now))
     (record {
       is_told = g.L.Link.is_told c.args.link;
       store = g.L.Link.store c.args.link;
@@ -22,21 +24,19 @@ returns-in-Ok g c =
       write_faults = g.O.Sink.faults c.args.out.now;
     })
     (record {
-      is_told = g.L.Link.is_told c.play_setup.result.link;
-      store = g.L.Link.store c.play_setup.result.link;
-      link_faults = g.L.Link.faults c.play_setup.result.link;
-      written = g.O.Sink.written c.play_setup.new.out;
-      write_faults = g.O.Sink.faults c.play_setup.new.out;
+      is_told = g.L.Link.is_told c.carry_out.result.link;
+      store = g.L.Link.store c.carry_out.result.link;
+      link_faults = g.L.Link.faults c.carry_out.result.link;
+      written = g.O.Sink.written c.carry_out.new.out;
+      write_faults = g.O.Sink.faults c.carry_out.new.out;
     })
-    c.play_setup.result.status c.play_setup.result.journal.events c.in-Ok.ensures.setup
-    c.in-Ok.ensures.logs
-    (was-read c.in-Ok.plan c.in-Ok.ensures.lines)
-    c.play_setup.ensures
+    c.carry_out.result.status c.carry_out.result.journal.events c.in-Ok.ensures.logs
+    (was-read c.in-Ok.plan c.in-Ok.ensures.plan) c.carry_out.ensures
 
 pub returns-in-Err : goal.returns-in-Err
 returns-in-Err g c =
-    plays-none default_setup (logs_of (map text_of c.args.texts.now.logs.items))
-    (lines_behind (texts_of c.args.texts.now))
+    carried-none (logs_of (map text_of c.args.texts.now.logs.items))
+    (plan_behind (texts_of c.args.texts.now))
     (record {
       is_told = g.L.Link.is_told c.args.link;
       store = g.L.Link.store c.args.link;
@@ -54,5 +54,5 @@ returns-in-Err g c =
     c.in-Err.status c.unplayed.result.status c.unplayed.result.journal.events
     (texts-rise (map text_of c.args.texts.now.logs.items))
     (ap (λ l. moment (g.L.Link.store l) (g.L.Link.faults l)) c.unplayed.ensures.link)
-    (status-of (lines_behind (texts_of c.args.texts.now)) c.in-Err.status c.in-Err.ensures.lines)
+    (status-of (plan_behind (texts_of c.args.texts.now)) c.in-Err.status c.in-Err.ensures.plan)
     c.unplayed.ensures.journal c.unplayed.ensures.written c.unplayed.ensures.memory

@@ -1,11 +1,10 @@
--- The logs are those of the texts, and the setup is the one that holds where nothing else is said.
+-- The logs are those of the texts.
 use Rattle.std.proofs.Common.{◌∙◌, List, map, ap, sym}
 use Rattle.parcon.specs.declared.reading.LogText.{LogText}
 use Rattle.parcon.specs.Plan.{logs_of, logs_with}
 use Rattle.parcon.specs.Reading.{text_of}
 use Rattle.parcon.proofs.ReadingLemmas.{was-read}
 use Rattle.parcon.proofs.PlanLemmas.{few-are, logs-checked}
-use Rattle.parcon.proofs.PlayLemmas.{default-is}
 use Rattle.parcon.proofs.plan.plan_of.Goals as goal
 
 pub returns-clause-logs : goal.returns-clause-logs
@@ -15,6 +14,3 @@ returns-clause-logs c =
     ∙ logs-checked (map text_of c.as_slice.result.now) c.in_ok-checked.checked.items
     (sym (was-read c.in_ok-checked.checked c.in_ok-checked.ensures.value))
     ∙ ap (λ (l : List LogText). logs_of (map text_of l)) c.as_slice.ensures.value
-
-pub returns-clause-setup : goal.returns-clause-setup
-returns-clause-setup c = default-is c.in_ok-setup.setup c.in_ok-setup.ensures

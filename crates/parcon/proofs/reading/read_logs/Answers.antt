@@ -20,11 +20,14 @@ word-is names i below = get_or_default names i _ (word names i) below
 
 pub loop-name-preserved : goal.loop-name-preserved
 loop-name-preserved g c = record {
-  read = read-next (λ n. n.now) c.args.names.now c.loop-name.name-index (word c.args.names.now c.loop-name.name-index)
-      (word c.args.names.now c.loop-name.name-index).now (g.F.Files.told c.args.files.now) (g.F.Files.told c.loop-name.files)
+  read = read-next (λ n. n.now) c.args.names.now c.loop-name.name-index (word c.args.names.now
+      c.loop-name.name-index)
+      (word c.args.names.now c.loop-name.name-index).now (g.F.Files.told c.args.files.now)
+      (g.F.Files.told c.loop-name.files)
       (g.F.Files.faults c.args.files.now) (g.F.Files.faults c.loop-name.files)
       (g.F.Files.faults c.read_log.new.files) (map text_of c.loop-name.logs.items)
-      c.loop-name.used c.loop-name-test.true (word-is c.args.names.now c.loop-name.name-index c.loop-name-test.true) refl
+      c.loop-name.used c.loop-name-test.true (word-is c.args.names.now c.loop-name.name-index
+      c.loop-name-test.true) refl
       c.loop-name.invariant.count c.in_ok-log.ensures.count c.loop-name.invariant.keeps
       c.loop-name.invariant.read (text_of c.in_ok-log.log) (map text_of c.push.new.self.items)
       c.len.result (c.len.ensures ∙ c.in_ok-log.log.bytes.ok.0)
@@ -54,11 +57,14 @@ returns-in_err-log-clause-texts g c =
     (g.F.Files.told c.args.files.now) (g.F.Files.faults c.args.files.now)
     (g.F.Files.faults c.read_log.new.files)
     (result_map_both (λ logs. map text_of logs.items) (λ s. s) r)) (sym is)
-    (read-stops (λ n. n.now) c.args.names.now c.loop-name.name-index (word c.args.names.now c.loop-name.name-index)
-    (word c.args.names.now c.loop-name.name-index).now (g.F.Files.told c.args.files.now) (g.F.Files.told c.loop-name.files)
+    (read-stops (λ n. n.now) c.args.names.now c.loop-name.name-index (word c.args.names.now
+    c.loop-name.name-index)
+    (word c.args.names.now c.loop-name.name-index).now (g.F.Files.told c.args.files.now)
+    (g.F.Files.told c.loop-name.files)
     (g.F.Files.faults c.args.files.now) (g.F.Files.faults c.loop-name.files)
     (g.F.Files.faults c.read_log.new.files) (map text_of c.loop-name.logs.items)
-    c.loop-name.used c.loop-name-test.true (word-is c.args.names.now c.loop-name.name-index c.loop-name-test.true) refl
+    c.loop-name.used c.loop-name-test.true (word-is c.args.names.now c.loop-name.name-index
+    c.loop-name-test.true) refl
     c.loop-name.invariant.count c.in_err-log.ensures.count c.loop-name.invariant.keeps
     c.loop-name.invariant.read c.in_err-log.field-0.0 log))
 

@@ -17,7 +17,8 @@ returns-in-Ok c =
     let words = map string_bytes c.args.words.now in
     let found = c.in-Ok.ensures.matches (ap is_simple app ∙ app-is_simple) in
     let taken = c.in-Ok.ensures.kinds (ap is_simple_and_free app ∙ app-simple) in
-    inr (ap (λ said. ok_or said Usage) (sym (clap-found c.in-Ok.matches words (texts-are c.args.words.now)
+    inr (ap (λ said. ok_or said Usage) (sym (clap-found c.in-Ok.matches words (texts-are
+    c.args.words.now)
     (found.0 ∙ ap (λ a. matches_of a words) app) (sym (ap (λ a. fault_of a words) app) ∙ taken))))
 
 pub returns-in-Err : goal.returns-in-Err
@@ -27,7 +28,9 @@ returns-in-Err c =
     let kinds = c.in-Err.ensures.kinds (ap is_simple_and_free app ∙ app-simple) in
     elim (clap-refused words c.in-Err.error.kind (texts-are c.args.words.now)
     (subst (λ a. HasKind (fault_of a words) c.in-Err.error) app kinds)) [
-      | inl memory ↦ inl (ap (λ (s : Status). Err s) (c.refused.ensures ∙ ap refused c.kind.ensures ∙ memory))
-      | inr usage ↦ inr (ap (λ (s : Status). Err s) (c.refused.ensures ∙ ap refused c.kind.ensures ∙ usage.0)
+      | inl memory ↦ inl (ap (λ (s : Status). Err s) (c.refused.ensures
+          ∙ ap refused c.kind.ensures ∙ memory))
+      | inr usage ↦ inr (ap (λ (s : Status). Err s) (c.refused.ensures ∙ ap refused c.kind.ensures
+          ∙ usage.0)
           ∙ ap (λ said. ok_or said Usage) (sym usage.1))
     ]
