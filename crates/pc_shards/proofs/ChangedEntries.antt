@@ -1,5 +1,5 @@
 -- Entries of which each is changed and keeps its record.
-use Rattle.std.proofs.Common.{◌≡◌, ℕ, ◌≤◌, Bool, true, false, cond, List, [], ◌∷◌, map, length, refl, ap, sym, subst, ◌∙◌, arith}
+use Rattle.std.proofs.Common.{◌≡◌, ℕ, ◌≤◌, true, false, cond, List, [], ◌∷◌, map, length, refl, ap, sym, subst, ◌∙◌, arith}
 use Rattle.std.specs.Prelude.{filter}
 use Rattle.std.proofs.lemmas.List.{length-map}
 use Rattle.pc_model.specs.declared.choices.Order.{Order}
@@ -7,7 +7,7 @@ use Rattle.pc_model.specs.Next.{OrderingKey, ordering_key, same_key}
 use Rattle.pc_model.specs.Record.{Record}
 use Rattle.pc_shards.specs.Entries.{Entry, is_first, key_of}
 use Rattle.pc_shards.specs.Part.{IsPart, offsets_of, queue}
-use Rattle.pc_shards.specs.Rising.{In, Rises}
+use Rattle.pc_shards.specs.Rising.{Rises}
 use Rattle.pc_shards.proofs.Lists.{In-map, In-mapped}
 use Rattle.pc_shards.proofs.EntriesLemmas.{first-low, low-first}
 

@@ -1,5 +1,6 @@
 pub mod Lists
 pub mod RisingLemmas
+pub mod ReadyLemmas
 pub mod ShardKeyLemmas
 pub mod QueuesLemmas
 pub mod PartLemmas

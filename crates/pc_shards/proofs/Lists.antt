@@ -1,6 +1,6 @@
 -- Tests, and members of lists.
 use Rattle.std.proofs.Common.{◌≡◌, ◌⊎◌, ℕ, Bool, true, false, not, ◌&&◌, ◌||◌, ◌==◌, cond, List, [], ◌∷◌, ◌++◌, map, refl, ap, sym, subst, inl, inr}
-use Rattle.std.specs.Prelude.{filter, OnErr, Result, Ok, Err}
+use Rattle.std.specs.Prelude.{filter, OnErr, OnOk, Result, Ok, Err}
 use Rattle.std.specs.List.{AllByRecursion, list_any, list_all}
 use Rattle.std.proofs.lemmas.Bool.{cases_Bool}
 use Rattle.std.proofs.lemmas.Bool.Decides.{Decides-eqb}
@@ -19,6 +19,10 @@ and-right false b e = cc
 pub and-both : (a b : Bool) → a ≡ true → b ≡ true → (a && b) ≡ true
 and-both true b e f = f
 and-both false b e f = cc
+
+pub and-off : (a b : Bool) → b ≡ false → (a && b) ≡ false
+and-off true b e = e
+and-off false b e = refl
 
 pub or-cases : (a b : Bool) → (a || b) ≡ true → (a ≡ true) ⊎ (b ≡ true)
 or-cases true b e = inl refl
@@ -171,3 +175,8 @@ In-mapped f y (x ∷ xs) (inr i) = let r = In-mapped f y xs i in (r.0, inr r.1, 
 pub on_err : {T E P : Type 0} (r : Result T E) → P → OnErr r P
 on_err (Ok x) p = tt
 on_err (Err e) p = p
+
+pub on_ok : {V E : Type 0} {A B C : Type 0} (r : Result V E) → OnOk r A → OnOk r B → (A → B → C)
+    → OnOk r C
+on_ok (Ok v) a b f = f a b
+on_ok (Err e) a b f = tt

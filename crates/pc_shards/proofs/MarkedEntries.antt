@@ -1,11 +1,10 @@
 -- The state of a part of which an entry is made busy or free.
 use Rattle.std.proofs.Common.{◌≡◌, ℕ, ◌<◌, ◌≤◌, Bool, true, false, not, ◌==◌, cond, List, [], ◌∷◌, length, refl, ap, sym, subst, inl, inr, ◌∙◌, arith}
-use Rattle.std.specs.Prelude.{filter}
 use Rattle.std.proofs.lemmas.Bool.{cases_Bool}
 use Rattle.std.proofs.lemmas.List.{length-map}
 use Rattle.pc_model.specs.declared.choices.Order.{Order}
-use Rattle.pc_model.specs.Next.{OrderingKey, same_key}
-use Rattle.pc_shards.specs.Entries.{Entry, is_first, is_first_offset, key_of, marked, with_busy}
+use Rattle.pc_model.specs.Next.{OrderingKey}
+use Rattle.pc_shards.specs.Entries.{Entry, is_first, is_first_offset, marked, with_busy}
 use Rattle.pc_shards.specs.Part.{EachAt, IsPart, offsets_of, queue}
 use Rattle.pc_shards.specs.Rising.{In, Rises, but, put}
 use Rattle.pc_shards.proofs.Lists.{In-map, In-mapped, number-is, number-same, true-false}

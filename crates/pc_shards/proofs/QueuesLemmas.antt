@@ -1,17 +1,14 @@
 -- The queues after a change of the map.
-use Rattle.std.proofs.Common.{◌≡◌, ℕ, Bool, true, false, not, ◌==◌, cond, filter, List, [], ◌∷◌, slice_get, Bor, Option, Some, None, is_some, refl, ap, sym, inl, inr, ◌∙◌, arith}
-use Rattle.std.specs.Map.{lookup}
+use Rattle.std.proofs.Common.{◌≡◌, ℕ, Bool, true, false, List, [], ◌∷◌, slice_get, Bor, Option, Some, None, is_some, refl, ap, sym, inl, inr, ◌∙◌, arith}
 use Rattle.std.specs.Option.{option_copied, option_map_or}
 use Rattle.std.specs.Slice.{IsItemAt}
 use Rattle.std.proofs.lemmas.Bool.{cases_Bool}
-use Rattle.std.proofs.lemmas.Map.Entries.{lookup-filter-keys}
 use Rattle.indexmap.specs.IndexMap.{IndexMap, get_by, UpdatesBy}
 use Rattle.pc_shards.specs.declared.shard_key.ShardKey.{ShardKey}
 use Rattle.pc_shards.specs.contracts.shard_key.ShardKeyPartialEq.TheImpl as key_eq
-use Rattle.pc_shards.specs.ShardKey.{is_same, part_of, plain_key}
-use Rattle.pc_model.specs.Next.{OrderingKey, same_key}
-use Rattle.pc_shards.proofs.Lists.{number-same, number-other, number-is_not, not-false}
-use Rattle.pc_shards.proofs.ShardKeyLemmas.{eq-is_same, part_of-same, same_key-true}
+use Rattle.pc_shards.specs.ShardKey.{bytes_of, is_same}
+use Rattle.pc_model.specs.Next.{same_bytes}
+use Rattle.pc_shards.proofs.ShardKeyLemmas.{eq-is_same, is_same-bytes}
 
 module _ {X S : Type 0} (items : X → List ℕ) where
   -- the queue of a key
@@ -29,9 +26,9 @@ module _ {X S : Type 0} (items : X → List ℕ) where
   -- the same keys have the same queue
   look-same : (m : IndexMap ShardKey X S) (k l : ShardKey) → is_same k l ≡ true
       → look m l ≡ look m k
-  look-same m k l e = ap (λ (p : OrderingKey). option_map_or items
-      (get_by (λ (j : ShardKey). same_key p (plain_key j)) m) [])
-      (sym (same_key-true (plain_key k) (plain_key l) e))
+  look-same m k l e = ap (λ (p : Option (List ℕ)). option_map_or items
+      (get_by (λ (j : ShardKey). same_bytes p (bytes_of j)) m) [])
+      (sym (is_same-bytes k l e))
 
   module _ (m n : IndexMap ShardKey X S) (k : ShardKey) (w : Option X)
       (updates : UpdatesBy key_eq.eq-value.it (key_eq.eq-value.it k) m n w) where
@@ -48,25 +45,6 @@ module _ {X S : Type 0} (items : X → List ℕ) where
       | inl same ↦ look-same n k l same ∙ look-updated ∙ kept ∙ sym (look-same m k l same)
       | inr other ↦ look-others l other
     ]
-
--- a map without the keys of a part has the queues of the other parts
-module _ {X S : Type 0} (items : X → List ℕ) (m n : IndexMap ShardKey X S) (p : ℕ)
-    (kept : n.entries ≡ filter (λ e. not (part_of e.0 == p)) m.entries) where
-  looked : (k : ShardKey) (b : Bool) → ((l : ShardKey) → is_same k l ≡ true
-      → not (part_of l == p) ≡ b)
-      → look items n k ≡ option_map_or items (cond b (get_by (is_same k) m) None) []
-  looked k b each = ap (λ (o : Option X). option_map_or items o [])
-      (ap (lookup (is_same k)) kept
-      ∙ lookup-filter-keys (is_same k) (λ l. not (part_of l == p)) b each m.entries)
-
-  pub look-dropped : (k : ShardKey) → part_of k ≡ p → look items n k ≡ []
-  look-dropped k is = looked k false (λ l same. ap not (number-same (part_of l) p
-      (sym (part_of-same k l same) ∙ is)))
-
-  pub look-kept : (k : ShardKey) → (part_of k == p) ≡ false → look items n k ≡ look items m k
-  look-kept k other = looked k true (λ l same. not-false (part_of l == p) (number-other
-      (part_of l) p
-      (λ is. number-is_not (part_of k) p other (part_of-same k l same ∙ is))))
 
 -- the first item, as `front` gives it
 pub front-first : (xs : List ℕ) (r : Option (Bor ℕ)) → IsItemAt xs 0 r

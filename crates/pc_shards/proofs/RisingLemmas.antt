@@ -1,7 +1,6 @@
 -- Rising numbers: one more, one less, how many there are, and the least.
 use Rattle.std.proofs.Common.{◌≡◌, ◌⊎◌, ℕ, zero, suc, ◌<◌, ◌≤◌, min, Bool, true, false, not, ◌==◌, cond, List, [], ◌∷◌, ◌++◌, map, length, drop, get_or, leb, Some, None, refl, ap, sym, subst, inl, inr, arith}
-use Rattle.std.specs.Prelude.{filter, insert, remove, slice_get}
-use Rattle.std.specs.List.{AllWithin}
+use Rattle.std.specs.Prelude.{filter, slice_get}
 use Rattle.std.specs.List.Sorted.{IsNonDecreasingBy}
 use Rattle.std.specs.Option.{option_map_or}
 use Rattle.std.proofs.lemmas.Bool.{cases_lt}
@@ -36,9 +35,6 @@ rises-non_decreasing f (x ∷ xs) r (suc i) (suc j) d le h =
 map-id : (xs : List ℕ) → map (λ x. x) xs ≡ xs
 map-id [] = refl
 map-id (x ∷ xs) = ap (λ ys. x ∷ ys) (map-id xs)
-
-pub non_decreasing : (xs : List ℕ) → Rises xs → IsNonDecreasingBy (λ x. x) xs
-non_decreasing xs r = rises-non_decreasing (λ x. x) xs (rw (map-id xs) r)
 
 -- ---- one more
 
@@ -95,19 +91,6 @@ length-put n (x ∷ xs) = elim (leb n x) as
     (λ b. length (cond b (n ∷ x ∷ xs) (x ∷ put n xs)) ≡ suc (suc (length xs)))
     [ true ↦ refl | false ↦ ap suc (length-put n xs) ]
 
--- an insertion at the first place whose number is not below puts it
-pub insert-put : (n : ℕ) (xs : List ℕ) (i : ℕ) → i ≤ length xs → AllWithin (λ x. x < n) xs 0 i
-    → AllWithin (λ x. n ≤ x) xs i (length xs) → insert xs i n ≡ put n xs
-insert-put n [] zero within below above = refl
-insert-put n [] (suc i) within below above = absurd (omega arith)
-insert-put n (x ∷ xs) zero within below above =
-    let le : n ≤ x = above zero 0 (omega arith) (omega arith) in rw (le-true n x le) refl
-insert-put n (x ∷ xs) (suc i) within below above =
-    let lt : x < n = below zero 0 (omega arith) (omega arith) in
-    rw (le-false n x lt) (ap (λ ys. x ∷ ys) (insert-put n xs i (omega arith)
-    (λ k d low high. below (suc k) d (omega arith) (omega arith))
-    (λ k d low high. above (suc k) d (omega arith) (omega arith))))
-
 -- ---- one less
 
 pub In-but : (u n : ℕ) (xs : List ℕ) → In u (but n xs) → In u xs × ((u == n) ≡ false)
@@ -136,46 +119,6 @@ apart-above n x h = grind (arith, nat_tests)
 
 apart-below : (n x : ℕ) → x < n → (x == n) ≡ false
 apart-below n x h = grind (arith, nat_tests)
-
--- a removal at its place takes it out
-pub remove-but : (n : ℕ) (xs : List ℕ) (i d : ℕ) → Rises xs → i < length xs
-    → AllWithin (λ x. x < n) xs 0 i
-    → get_or xs i d ≡ n → remove xs i ≡ but n xs
-remove-but n [] i d r within below is = absurd (omega arith)
-remove-but n (x ∷ xs) zero d r within below is =
-    let same : (x == n) ≡ true = number-same x n is in
-    let rest : but n xs ≡ xs = but-none n xs (λ y j. let more = AllByRecursion-In
-    (λ y. x < y) y xs r.0 j in
-    apart-above n y (omega (arith, more, is))) in
-    rw same (sym rest)
-remove-but n (x ∷ xs) (suc i) d r within below is =
-    let lt : x < n = below zero 0 (omega arith) (omega arith) in
-    rw (apart-below n x lt) (ap (λ ys. x ∷ ys) (remove-but n xs i d r.1 (omega arith)
-    (λ k e low high. below (suc k) e (omega arith) (omega arith)) is))
-
--- and where another number stands at its place, it is not there
-pub but-absent : (n : ℕ) (xs : List ℕ) (i d : ℕ) → Rises xs → i ≤ length xs
-    → AllWithin (λ x. x < n) xs 0 i
-    → AllWithin (λ x. n ≤ x) xs i (length xs) → (i < length xs → get_or xs i d ≡ n → ⊥)
-    → but n xs ≡ xs
-but-absent n [] i d r within below above other = refl
-but-absent n (x ∷ xs) zero d r within below above other =
-    let le : n ≤ x = above zero 0 (omega arith) (omega arith) in
-    let lt : n < x = (elim (cases_lt n x) [
-      | inl lt ↦ lt
-      | inr ge ↦ absurd (other (omega arith) (omega arith))
-    ]) in
-    but-none n (x ∷ xs) (λ y j. elim j [
-      | inl e ↦ apart-above n y (omega (arith, e, lt))
-      | inr k ↦ let more = AllByRecursion-In (λ y. x < y) y xs r.0 k in
-          apart-above n y (omega (arith, more, lt))
-    ])
-but-absent n (x ∷ xs) (suc i) d r within below above other =
-    let lt : x < n = below zero 0 (omega arith) (omega arith) in
-    rw (apart-below n x lt) (ap (λ ys. x ∷ ys) (but-absent n xs i d r.1 (omega arith)
-    (λ k e low high. below (suc k) e (omega arith) (omega arith))
-    (λ k e low high. above (suc k) e (omega arith) (omega arith))
-    (λ h e. other (omega arith) e)))
 
 -- ---- how many
 

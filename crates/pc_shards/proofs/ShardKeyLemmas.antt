@@ -1,5 +1,6 @@
 -- Ordering keys, and those with lent bytes.
-use Rattle.std.proofs.Common.{◌≡◌, ℕ, true, ◌==◌, List, Option, Some, None, refl, ap, sym, subst, ◌∙◌}
+use Rattle.std.proofs.Common.{◌≡◌, ℕ, true, ◌==◌, Bor, List, Option, Some, None, refl, ap, sym, subst, ◌∙◌}
+use Rattle.std.specs.Option.{option_copied}
 use Rattle.std.proofs.lemmas.Slice.Eq.{bytes_eq-Decides}
 use Rattle.pc_model.specs.declared.choices.Order.{Order}
 use Rattle.pc_model.specs.declared.choices.Order.TheVariants.{None as NoOrder, Partition, Key as ByKey}
@@ -7,10 +8,9 @@ use Rattle.pc_model.specs.Record.{Record as PlainRecord}
 use Rattle.pc_model.specs.Next.{OrderingKey, ordering_key, same_key, same_bytes}
 use Rattle.pc_model.specs.Next.OrderingKey.{OfRecord, OfPart, OfKey}
 use Rattle.pc_shards.specs.declared.shard_key.ShardKey.{ShardKey}
-use Rattle.pc_shards.specs.declared.shard_key.ShardKey.TheVariants.{Record, Part, Key}
 use Rattle.pc_shards.specs.contracts.shard_key.ShardKeyPartialEq.TheImpl as key_eq
 use Rattle.pc_shards.specs.Entries.{bare_record}
-use Rattle.pc_shards.specs.ShardKey.{is_same, part_of, plain_key}
+use Rattle.pc_shards.specs.ShardKey.{bytes_of, is_same}
 use Rattle.pc_shards.proofs.Lists.{and-left, and-right, number-is, number-same, same_test}
 
 -- ---- ordering keys
@@ -60,34 +60,17 @@ bare-key ByKey p r o key at same = ap (λ (k : Option (List ℕ)). OfKey p k) (s
 
 -- ---- keys with lent bytes
 
--- their equality in the code is that of the ordering keys
+-- their equality in the code is that of their bytes
+eq-bytes : (a b : Option (Bor (List ℕ)))
+    → key_eq.eq-value.it (record { bytes = a }) (record { bytes = b })
+    ≡ same_bytes (option_copied a) (option_copied b)
+eq-bytes None None = refl
+eq-bytes None (Some b) = refl
+eq-bytes (Some a) None = refl
+eq-bytes (Some a) (Some b) = refl
+
 pub eq-is_same : (k l : ShardKey) → key_eq.eq-value.it k l ≡ is_same k l
-eq-is_same (Record p o) (Record q u) = refl
-eq-is_same (Record p o) (Part q) = refl
-eq-is_same (Record p o) (Key q b) = refl
-eq-is_same (Part p) (Record q u) = refl
-eq-is_same (Part p) (Part q) = refl
-eq-is_same (Part p) (Key q b) = refl
-eq-is_same (Key p a) (Record q u) = refl
-eq-is_same (Key p a) (Part q) = refl
-eq-is_same (Key p None) (Key q None) = refl
-eq-is_same (Key p None) (Key q (Some b)) = refl
-eq-is_same (Key p (Some a)) (Key q None) = refl
-eq-is_same (Key p (Some a)) (Key q (Some b)) = refl
+eq-is_same k l = eq-bytes k.bytes l.bytes
 
-part_of-OrderingKey : OrderingKey → ℕ
-part_of-OrderingKey (OfRecord p o) = p
-part_of-OrderingKey (OfPart p) = p
-part_of-OrderingKey (OfKey p a) = p
-
-part_of-plain : (k : ShardKey) → part_of k ≡ part_of-OrderingKey (plain_key k)
-unfolding part_of-OrderingKey
-part_of-plain (Record p o) = refl
-part_of-plain (Part p) = refl
-part_of-plain (Key p b) = refl
-
--- the same keys are of the same part
-pub part_of-same : (k l : ShardKey) → is_same k l ≡ true → part_of k ≡ part_of l
-part_of-same k l e = part_of-plain k ∙ ap part_of-OrderingKey (same_key-true (plain_key k)
-    (plain_key l) e)
-    ∙ sym (part_of-plain l)
+pub is_same-bytes : (k l : ShardKey) → is_same k l ≡ true → bytes_of k ≡ bytes_of l
+is_same-bytes k l e = bytes-true (bytes_of k) (bytes_of l) e

@@ -1,29 +1,28 @@
 -- The shards without the last entry of a part.
-use Rattle.std.proofs.Common.{◌≡◌, ℕ, ◌<◌, ◌-◌, false, ◌==◌, List, [], ◌∷◌, ◌++◌, length, get_or, set, slice_get, take, cond, Option, Some, vec_capacity, refl, ap, sym, subst, inl, inr, ◌∙◌, arith}
-use Rattle.std.specs.Option.{option_copied}
+use Rattle.std.proofs.Common.{◌≡◌, ℕ, ◌<◌, ◌≤◌, ◌-◌, false, List, [], ◌∷◌, ◌++◌, length, get_or, set, slice_get, take, cond, Option, Some, refl, ap, sym, subst, inl, inr, ◌∙◌, arith}
 use Rattle.std.proofs.lemmas.Bool.{cases_Bool, cases_lt}
 use Rattle.std.proofs.lemmas.Option.{slice_get_past, slice_get_read}
 use Rattle.pc_model.specs.declared.choices.Order.{Order}
-use Rattle.pc_model.specs.Next.{ordering_key, same_key}
+use Rattle.pc_model.specs.declared.choices.Order.TheVariants.{Key as ByKey}
+use Rattle.pc_model.specs.Next.{same_key}
+use Rattle.pc_model.specs.Next.OrderingKey.{OfKey}
 use Rattle.pc_shards.specs.declared.part.EntryRef.{EntryRef}
 use Rattle.pc_shards.specs.declared.part.Part.{Part}
-use Rattle.pc_shards.specs.declared.queues.Queues.{Queues}
 use Rattle.pc_shards.specs.declared.shard_key.ShardKey.{ShardKey}
-use Rattle.pc_shards.specs.Entries.{Entry, bare_record, key_of, of_part}
+use Rattle.pc_shards.specs.Entries.{Entry, key_of, of_part}
 use Rattle.pc_shards.specs.Part.{IsPart, plain, plain_entries, queue}
 use Rattle.pc_shards.specs.Queues.{queue_of}
-use Rattle.pc_shards.specs.Rising.{Rises, but}
-use Rattle.pc_shards.specs.ShardKey.{is_same, part_of, plain_key}
-use Rattle.pc_shards.specs.Shards.{IsShards, entries_at}
+use Rattle.pc_shards.specs.Rising.{In, Rises, but}
+use Rattle.pc_shards.specs.ShardKey.{bytes_of, is_same}
+use Rattle.pc_shards.specs.Shards.{IsShards}
 use Rattle.pc_shards.proofs.AddedEntries.{queue-push}
 use Rattle.pc_shards.proofs.CutEntries.{last-above, part-front, take-front}
-use Rattle.pc_shards.proofs.Lists.{number-is_not}
-use Rattle.pc_shards.proofs.ShardKeyLemmas.{bare-key, part_of-same, same_key-is, same_key-sym, same_key-true}
-use Rattle.pc_shards.proofs.ShardsAdded.{append-nil, plain-push}
-use Rattle.pc_shards.proofs.ShardsLemmas.{IsPartAt, entries_in, of-all, queue_of-same, shards-set, view, view-set}
+use Rattle.pc_shards.proofs.ShardKeyLemmas.{is_same-bytes, same_key-is}
+use Rattle.pc_shards.proofs.ShardsAdded.{append-nil, other-key, plain-push}
+use Rattle.pc_shards.proofs.ShardsLemmas.{AreQueued, IsPartAt, by-key, entries_in, of-all, own-queued, queue_of-same, shards-with, view, view-set}
 
-module _ (order : Order) (queues : Queues) (parts : List Part) (i : ℕ) (s : Part)
-    (is : IsShards order queues parts) (some : 0 < length (of_part (view order parts) i))
+module _ (order : Order) (parts : List Part) (i : ℕ) (s : Part)
+    (is : IsShards order parts) (some : 0 < length (of_part (view order parts) i))
     (at : s ≡ get_or parts i s) where
   within : i < length parts
   within = elim (cases_lt i (length parts)) [
@@ -36,13 +35,13 @@ module _ (order : Order) (queues : Queues) (parts : List Part) (i : ℕ) (s : Pa
   own : slice_get parts i ≡ Some s
   own = slice_get_read parts (length parts) i s refl within at
 
-  part : IsPart order i (plain_entries s.entries.items) s.ready.items (vec_capacity s.ready)
+  part : IsPart order i (plain_entries s.entries.items) s.ready.offsets s.ready.places
   part = subst (λ t. IsPartAt order i t) own (is.each i)
 
   own-view : of_part (view order parts) i ≡ plain_entries s.entries.items
   own-view = of-all parts i ∙ ap entries_in own
 
-  pub popped-rises : Rises s.ready.items
+  pub popped-rises : Rises s.ready.offsets
   popped-rises = part.ready_rises
 
   module _ (t : Part) (last : EntryRef)
@@ -61,64 +60,49 @@ module _ (order : Order) (queues : Queues) (parts : List Part) (i : ℕ) (s : Pa
     popped-view = view-set order parts i t within ∙ sym (take-front es e)
         ∙ ap (λ (xs : List Entry). take (length xs - 1) xs) (sym (own-view ∙ split))
 
-    state : IsPart order i (es ++ e ∷ []) s.ready.items (vec_capacity s.ready)
-    state = subst (λ xs. IsPart order i xs s.ready.items (vec_capacity s.ready)) split part
+    state : IsPart order i (es ++ e ∷ []) s.ready.offsets s.ready.places
+    state = subst (λ xs. IsPart order i xs s.ready.offsets s.ready.places) split part
 
-    queued-now : (k : ShardKey) → part_of k ≡ i
-        → queue_of queues k ≡ queue order i es (plain_key k)
-        ++ cond (same_key (plain_key k) (key_of order i e)) (e.record.offset ∷ []) []
-    queued-now k same = is.queued k
-        ∙ ap (λ q. queue order q (entries_at parts q) (plain_key k)) same
-        ∙ ap (λ (u : Option Part). queue order i (entries_in u) (plain_key k)) own
-        ∙ ap (λ (xs : List Entry). queue order i xs (plain_key k)) split
-        ∙ queue-push order i es e (last-above es e state.rises) (plain_key k)
+    above : (q : Entry) → In q es → q.record.offset < e.record.offset
+    above = last-above es e state.rises
 
-    module _ (more : Queues) (shard : ShardKey)
-        (ready : t.ready.items ≡ but last.record.offset s.ready.items)
-        (room : vec_capacity t.ready ≡ vec_capacity s.ready)
-        (bare : plain_key shard ≡ ordering_key order i
-        (bare_record last.record.offset (option_copied last.record.key)))
-        (in_part : part_of shard ≡ i)
-        (popped : queue_of more shard
-        ≡ take (length (queue_of queues shard) - 1) (queue_of queues shard))
-        (others : (k : ShardKey) → is_same shard k ≡ false → queue_of more k ≡ queue_of queues k)
-      where
-        of_shard : plain_key shard ≡ key_of order i e
-        of_shard = bare ∙ bare-key order i e.record last.record.offset
-            (option_copied last.record.key) refl refl
+    queued : order ≡ ByKey → (k : ShardKey) → queue_of s.queues k
+        ≡ queue order i es (OfKey i (bytes_of k))
+        ++ cond (same_key (OfKey i (bytes_of k)) (key_of order i e)) (e.record.offset ∷ []) []
+    queued by k = own-queued order parts i s is own by k
+        ∙ ap (λ (xs : List Entry). queue order i xs (OfKey i (bytes_of k))) split
+        ∙ queue-push order i es e above (OfKey i (bytes_of k))
 
-        queued-own : queue_of more shard ≡ queue order i es (plain_key shard)
-        queued-own = popped
-            ∙ ap (λ (xs : List ℕ). take (length xs - 1) xs) (queued-now shard in_part
-            ∙ ap (λ b. queue order i es (plain_key shard) ++ cond b (e.record.offset ∷ []) [])
-            (same_key-is (plain_key shard) (key_of order i e) of_shard))
-            ∙ take-front (queue order i es (plain_key shard)) e.record.offset
+    module _ (ready : t.ready.offsets ≡ but last.record.offset s.ready.offsets)
+        (room : s.ready.places ≤ t.ready.places)
+        (popped : order ≡ ByKey → queue_of t.queues (record { bytes = last.record.key })
+        ≡ take (length (queue_of s.queues (record { bytes = last.record.key })) - 1)
+        (queue_of s.queues (record { bytes = last.record.key })))
+        (others : (k : ShardKey) → is_same (record { bytes = last.record.key }) k ≡ false
+        → queue_of t.queues k ≡ queue_of s.queues k) where
+      abbrev shard : ShardKey
+      shard = record { bytes = last.record.key }
 
-        queued-front : (k : ShardKey) → part_of k ≡ i
-            → queue_of more k ≡ queue order i es (plain_key k)
-        queued-front k same = elim (cases_Bool (is_same shard k)) [
-          | inl one ↦ let keys : plain_key shard ≡ plain_key k = same_key-true (plain_key shard)
-              (plain_key k) one in
-              queue_of-same more k shard (sym keys) ∙ queued-own ∙ ap (queue order i es) keys
-          | inr other ↦ others k other ∙ queued-now k same
-              ∙ ap (λ b. queue order i es (plain_key k) ++ cond b (e.record.offset ∷ []) [])
-              (same_key-sym (plain_key k) (key_of order i e)
-              ∙ ap (λ l. same_key l (plain_key k)) (sym of_shard) ∙ other)
-              ∙ append-nil (queue order i es (plain_key k))
-        ]
+      queued-own : order ≡ ByKey
+          → queue_of t.queues shard ≡ queue order i es (OfKey i (bytes_of shard))
+      queued-own by = popped by
+          ∙ ap (λ (xs : List ℕ). take (length xs - 1) xs) (queued by shard
+          ∙ ap (λ b. queue order i es (OfKey i (bytes_of shard)) ++ cond b (e.record.offset ∷ []) [])
+          (same_key-is (OfKey i (bytes_of shard)) (key_of order i e) (sym (by-key order i e by))))
+          ∙ take-front (queue order i es (OfKey i (bytes_of shard))) e.record.offset
 
-        queued-apart : (k : ShardKey) → (part_of k == i) ≡ false
-            → queue_of more k ≡ queue_of queues k
-        queued-apart k other = others k (elim (cases_Bool (is_same shard k)) [
-          | inl same ↦ number-is_not (part_of k) i other (sym (part_of-same shard k same) ∙ in_part)
-          | inr apart ↦ apart
-        ])
+      queued-front : AreQueued order i es t
+      queued-front by k = elim (cases_Bool (is_same shard k)) [
+        | inl one ↦ let keys : bytes_of shard ≡ bytes_of k = is_same-bytes shard k one in
+            queue_of-same t.queues k shard (sym keys) ∙ queued-own by
+            ∙ ap (λ (b : Option (List ℕ)). queue order i es (OfKey i b)) keys
+        | inr other ↦ others k other ∙ queued by k
+            ∙ ap (λ b. queue order i es (OfKey i (bytes_of k)) ++ cond b (e.record.offset ∷ []) [])
+            (other-key order i e by shard k refl other)
+            ∙ append-nil (queue order i es (OfKey i (bytes_of k)))
+      ]
 
-        new-state : IsPart order i es t.ready.items (vec_capacity t.ready)
-        new-state = subst (λ os. IsPart order i es os (vec_capacity t.ready)) (sym ready)
-            (subst (λ n. IsPart order i es (but e.record.offset s.ready.items) n) (sym room)
-            (part-front order i es e s.ready.items (vec_capacity s.ready) state))
-
-        pub shards-popped : IsShards order more (set parts i t)
-        shards-popped = shards-set order queues more parts i t within is new-state queued-front
-            queued-apart
+      pub shards-popped : IsShards order (set parts i t)
+      shards-popped = shards-with order parts i s t within is es (but e.record.offset s.ready.offsets)
+          refl ready room
+          (part-front order i es e s.ready.offsets s.ready.places state) queued-front

@@ -1,24 +1,28 @@
 -- The parts and the queues, when one part changes.
-use Rattle.std.proofs.Common.{◌≡◌, ◌⊎◌, ℕ, ◌+◌, cond, zero, suc, ◌<◌, ◌≤◌, Bool, true, false, ◌&&◌, ◌==◌, List, [], ◌∷◌, length, get_or, set, slice_get, Option, Some, vec_capacity, refl, ap, sym, subst, inl, inr, ◌∙◌, arith}
+use Rattle.std.proofs.Common.{◌≡◌, ◌⊎◌, ℕ, ◌+◌, cond, zero, suc, ◌<◌, ◌≤◌, Bool, true, false, ◌&&◌, ◌==◌, List, [], ◌∷◌, ◌++◌, length, get_or, set, slice_get, Option, Some, None, refl, ap, sym, subst, inl, inr, ◌∙◌, arith}
+use Rattle.std.specs.VecDeque.{deque_capacity, deque_len}
+use Rattle.std.proofs.Math.ListN.{length-set}
 use Rattle.std.specs.Option.{option_map_or}
 use Rattle.std.proofs.lemmas.Bool.{cases_Bool, cases_lt}
 use Rattle.std.proofs.lemmas.Option.{slice_get_past, slice_get_read}
 use Rattle.pc_model.specs.declared.choices.Order.{Order}
-use Rattle.pc_model.specs.Next.{OrderingKey, same_key}
+use Rattle.pc_model.specs.declared.choices.Order.TheVariants.{Key as ByKey}
+use Rattle.pc_model.specs.Next.{OrderingKey, same_bytes}
+use Rattle.pc_model.specs.Next.OrderingKey.{OfKey}
 use Rattle.indexmap.specs.IndexMap.{get_by}
 use Rattle.pc_shards.specs.declared.part.Part.{Part}
 use Rattle.pc_shards.specs.declared.queues.Queues.{Queues}
 use Rattle.pc_shards.specs.declared.shard_key.ShardKey.{ShardKey}
-use Rattle.pc_shards.specs.Entries.{ChangesNothing, ChangesOnly, Entries, Entry, failed, has_entry_at, is_first, is_first_offset, of_part, with_busy, with_failure}
-use Rattle.pc_shards.specs.Part.{EachAt, Holds, IsPart, plain_entries, queue}
+use Rattle.pc_shards.specs.Entries.{ChangesNothing, ChangesOnly, Entries, Entry, failed, has_entry_at, is_first, is_first_offset, key_of, of_part, with_busy, with_failure}
+use Rattle.pc_shards.specs.Part.{EachAt, Holds, IsPart, Keeps, plain_entries, queue}
 use Rattle.pc_shards.specs.Queues.{queue_of}
 use Rattle.pc_shards.specs.Rising.{In, but, put}
-use Rattle.pc_shards.specs.ShardKey.{part_of, plain_key}
-use Rattle.pc_shards.specs.Shards.{IsShards, KeepsParts, all_entries, entries_at, ready_at, room_at}
+use Rattle.pc_shards.specs.ShardKey.{bytes_of}
+use Rattle.pc_shards.specs.Shards.{HasRoomAt, IsShards, KeepsParts, all_entries, entries_at, ready_at, room_at}
 use Rattle.pc_shards.proofs.Lists.{In-list_any, In-map, and-both, list_any-In, number-is, number-is_not, number-same, true-false}
 use Rattle.pc_shards.proofs.PartLemmas.{one-entry}
 use Rattle.pc_shards.proofs.ChangedEntries.{part-changed, queue-changed}
-use Rattle.pc_shards.proofs.MarkedEntries.{busy-place, made_busy, made_free, queue-with_busy, with_busy-same}
+use Rattle.pc_shards.proofs.MarkedEntries.{busy-apart, busy-place, made_busy, made_free, queue-with_busy, with_busy-same}
 use Rattle.pc_shards.proofs.EntriesLemmas.{first-entry}
 
 -- ---- what is at a place
@@ -65,17 +69,24 @@ changes-set order parts i s = record {
 }
 
 abbrev pub IsPartAt : Order → ℕ → Option Part → Type 0
-IsPartAt order p s = IsPart order p (entries_in s) (option_map_or (λ s. s.ready.items) s [])
-    (option_map_or (λ s. vec_capacity s.ready) s 0)
+IsPartAt order p s = IsPart order p (entries_in s) (option_map_or (λ s. s.ready.offsets) s [])
+    (option_map_or (λ s. s.ready.places) s 0)
 
-pub shards-set : (order : Order) (queues more : Queues) (parts : List Part) (i : ℕ) (s : Part)
-    → i < length parts → IsShards order queues parts
-    → IsPart order i (plain_entries s.entries.items) s.ready.items (vec_capacity s.ready)
-    → ((k : ShardKey) → part_of k ≡ i
-    → queue_of more k ≡ queue order i (plain_entries s.entries.items) (plain_key k))
-    → ((k : ShardKey) → (part_of k == i) ≡ false → queue_of more k ≡ queue_of queues k)
-    → IsShards order more (set parts i s)
-shards-set order queues more parts i s h is part own others = record {
+-- the queue of a key in it
+abbrev pub queue_in : Option Part → ShardKey → List ℕ
+queue_in s k = option_map_or (λ s. queue_of s.queues k) s []
+
+-- that the queues of a part are those of its entries where records are ordered by key
+abbrev pub AreQueued : Order → ℕ → List Entry → Part → Type 0
+AreQueued order p es s = order ≡ ByKey → (k : ShardKey)
+    → queue_of s.queues k ≡ queue order p es (OfKey p (bytes_of k))
+
+pub shards-set : (order : Order) (parts : List Part) (i : ℕ) (s : Part)
+    → i < length parts → IsShards order parts
+    → IsPart order i (plain_entries s.entries.items) s.ready.offsets s.ready.places
+    → AreQueued order i (plain_entries s.entries.items) s
+    → IsShards order (set parts i s)
+shards-set order parts i s h is part own = record {
   each = λ p. elim (cases_Bool (p == i)) [
     | inl same ↦ let at : p ≡ i = number-is p i same in
         subst (λ q. IsPartAt order q (slice_get (set parts i s) q)) (sym at)
@@ -83,15 +94,16 @@ shards-set order queues more parts i s h is part own others = record {
     | inr other ↦ subst (λ o. IsPartAt order p o) (sym (set-other parts i p s
         (number-is_not p i other))) (is.each p)
   ];
-  queued = λ k. elim (cases_Bool (part_of k == i)) [
-    | inl same ↦ let at : part_of k ≡ i = number-is (part_of k) i same in
-        own k at ∙ subst (λ q. queue order i (plain_entries s.entries.items) (plain_key k)
-        ≡ queue order q (entries_in (slice_get (set parts i s) q)) (plain_key k)) (sym at)
-        (ap (λ (o : Option Part). queue order i (entries_in o) (plain_key k)) (sym
-        (set-here parts i s h)))
-    | inr other ↦ others k other ∙ is.queued k ∙ ap (λ (o : Option Part). queue order (part_of k)
-        (entries_in o) (plain_key k)) (sym (set-other parts i (part_of k) s (number-is_not
-        (part_of k) i other)))
+  queued = λ by p k. elim (cases_Bool (p == i)) [
+    | inl same ↦ let at : p ≡ i = number-is p i same in
+        subst (λ q. queue_in (slice_get (set parts i s) q) k
+        ≡ queue order q (entries_in (slice_get (set parts i s) q)) (OfKey q (bytes_of k))) (sym at)
+        (subst (λ (o : Option Part). queue_in o k
+        ≡ queue order i (entries_in o) (OfKey i (bytes_of k))) (sym
+        (set-here parts i s h)) (own by k))
+    | inr other ↦ subst (λ (o : Option Part). queue_in o k
+        ≡ queue order p (entries_in o) (OfKey p (bytes_of k))) (sym (set-other parts i p s
+        (number-is_not p i other))) (is.queued by p k)
   ];
 }
 
@@ -108,21 +120,104 @@ more-room order p es ready places more is le = record {
   room = let room = is.room in omega (arith, room, le);
 }
 
--- where each part has what it had, and so do the queues
-pub shards-kept : (order : Order) (queues same : Queues) (parts more : List Part)
-    → IsShards order queues parts
-    → KeepsParts parts more → ((k : ShardKey) → queue_of same k ≡ queue_of queues k)
-    → IsShards order same more
-shards-kept order queues same parts more is keeps queued = record {
+-- where each part has what it had
+pub shards-kept : (order : Order) (parts more : List Part) → IsShards order parts
+    → KeepsParts parts more → IsShards order more
+shards-kept order parts more is keeps = record {
   each = λ p. subst (λ es. IsPart order p es (ready_at more p) (room_at more p)) (sym
       (keeps.entries p))
       (subst (λ os. IsPart order p (entries_at parts p) os (room_at more p)) (sym (keeps.ready p))
       (more-room order p (entries_at parts p) (ready_at parts p) (room_at parts p) (room_at more p)
       (is.each p) (keeps.room p)));
-  queued = λ k. queued k ∙ is.queued k ∙ ap (λ (es : List Entry). queue order (part_of k) es
-      (plain_key k))
-      (sym (keeps.entries (part_of k)));
+  queued = λ by p k. keeps.queues p k ∙ is.queued by p k
+      ∙ ap (λ (es : List Entry). queue order p es (OfKey p (bytes_of k)))
+      (sym (keeps.entries p));
 }
+
+-- what is left as it was of one part changes none
+module _ (parts : List Part) (i : ℕ) (s t : Part) (within : i < length parts)
+    (own : slice_get parts i ≡ Some s) where
+  kept-at : (R : Option Part → Option Part → Type 0) → ((o : Option Part) → R o o)
+      → R (Some s) (Some t) → (p : ℕ) → R (slice_get parts p) (slice_get (set parts i t) p)
+  kept-at R same here p = elim (cases_Bool (p == i)) [
+    | inl is ↦ subst (λ q. R (slice_get parts q) (slice_get (set parts i t) q))
+        (sym (number-is p i is))
+        (subst (λ o. R o (slice_get (set parts i t) i)) (sym own)
+        (subst (λ o. R (Some s) o) (sym (set-here parts i t within)) here))
+    | inr other ↦ subst (λ o. R (slice_get parts p) o)
+        (sym (set-other parts i p t (number-is_not p i other))) (same (slice_get parts p))
+  ]
+
+  pub kept-set : Keeps s t → s.ready.places ≤ t.ready.places
+      → KeepsParts parts (set parts i t)
+  kept-set keeps room = record {
+    entries = kept-at (λ o u. entries_in u ≡ entries_in o) (λ o. refl)
+        (ap plain_entries keeps.entries);
+    ready = kept-at (λ o u. option_map_or (λ s. s.ready.offsets) u []
+        ≡ option_map_or (λ s. s.ready.offsets) o []) (λ o. refl) keeps.ready;
+    room = kept-at (λ o u. option_map_or (λ s. s.ready.places) o 0
+        ≤ option_map_or (λ s. s.ready.places) u 0) (λ o. omega arith) room;
+    queues = λ p k. kept-at (λ o u. queue_in u k ≡ queue_in o k) (λ o. refl) (keeps.queues k) p;
+  }
+
+-- an empty part more changes none
+module _ (s : Part) where
+  pushed-at : (R : Option Part → Option Part → Type 0) → ((o : Option Part) → R o o)
+      → R None (Some s) → (parts : List Part) (p : ℕ)
+      → R (slice_get parts p) (slice_get (parts ++ s ∷ []) p)
+  pushed-at R same here [] zero = here
+  pushed-at R same here [] (suc p) = same None
+  pushed-at R same here (x ∷ parts) zero = same (Some x)
+  pushed-at R same here (x ∷ parts) (suc p) = pushed-at R same here parts p
+
+  pub kept-push : (parts : List Part) → s.entries.items ≡ [] → s.ready.offsets ≡ []
+      → ((k : ShardKey) → queue_of s.queues k ≡ []) → KeepsParts parts (parts ++ s ∷ [])
+  kept-push parts entries ready queues = record {
+    entries = pushed-at (λ o u. entries_in u ≡ entries_in o) (λ o. refl)
+        (ap plain_entries entries) parts;
+    ready = pushed-at (λ o u. option_map_or (λ s. s.ready.offsets) u []
+        ≡ option_map_or (λ s. s.ready.offsets) o []) (λ o. refl) ready parts;
+    room = pushed-at (λ o u. option_map_or (λ s. s.ready.places) o 0
+        ≤ option_map_or (λ s. s.ready.places) u 0) (λ o. omega arith) (omega arith) parts;
+    queues = λ p k. pushed-at (λ o u. queue_in u k ≡ queue_in o k) (λ o. refl) (queues k) parts p;
+  }
+
+-- there is room where it was made
+pub room-made : (parts : List Part) (i : ℕ) (t : Part) → i < length parts
+    → deque_len t.entries < deque_capacity t.entries
+    → deque_len t.entries < t.ready.places → HasRoomAt i (set parts i t)
+room-made parts i t within places room = record {
+  within = let len = length-set parts i t in omega (arith, within, len);
+  entries = λ s is. let same : Some t ≡ Some s = sym (set-here parts i t within) ∙ is in
+      let at : t ≡ s = cc same in
+      subst (λ (u : Part). deque_len u.entries < deque_capacity u.entries) at places;
+  ready = λ s is. let same : Some t ≡ Some s = sym (set-here parts i t within) ∙ is in
+      let at : t ≡ s = cc same in
+      subst (λ (u : Part). deque_len u.entries < u.ready.places) at room;
+}
+
+pub kept-then : (a b d : List Part) → KeepsParts a b → KeepsParts b d → KeepsParts a d
+kept-then a b d first then = record {
+  entries = λ p. then.entries p ∙ first.entries p;
+  ready = λ p. then.ready p ∙ first.ready p;
+  room = λ p. let x = first.room p in let y = then.room p in omega (arith, x, y);
+  queues = λ p k. then.queues p k ∙ first.queues p k;
+}
+
+-- the part's state and the queues of other entries, and no less room
+pub shards-with : (order : Order) (parts : List Part) (i : ℕ) (s t : Part) → i < length parts
+    → IsShards order parts → (es : List Entry) (ready : List ℕ)
+    → plain_entries t.entries.items ≡ es → t.ready.offsets ≡ ready
+    → s.ready.places ≤ t.ready.places
+    → IsPart order i es ready s.ready.places → AreQueued order i es t
+    → IsShards order (set parts i t)
+shards-with order parts i s t within is es ready entries offsets room part queued =
+    shards-set order parts i t within is
+    (subst (λ xs. IsPart order i xs t.ready.offsets t.ready.places) (sym entries)
+    (subst (λ os. IsPart order i es os t.ready.places) (sym offsets)
+    (more-room order i es ready s.ready.places t.ready.places part room)))
+    (λ by k. queued by k
+    ∙ ap (λ (xs : List Entry). queue order i xs (OfKey i (bytes_of k))) (sym entries))
 
 pub kept-nothing : (order : Order) (parts more : List Part) → KeepsParts parts more
     → ChangesNothing (view order parts) (view order more)
@@ -131,14 +226,39 @@ kept-nothing order parts more keeps = record {
   each = λ p. of-all more p ∙ keeps.entries p ∙ sym (of-all parts p);
 }
 
+-- a part without entries
+part-empty : (order : Order) (p places : ℕ) → IsPart order p [] [] places
+part-empty order p places = record {
+  rises = tt;
+  firsts = λ e i busy. elim i [ ];
+  ready_rises = tt;
+  sound = λ o i. elim i [ ];
+  whole = λ o is. elim is.has [ ];
+  room = omega arith;
+}
+
+pub shards-empty : (order : Order) (parts : List Part) (i : ℕ) (t : Part) → i < length parts
+    → IsShards order parts → t.entries.items ≡ [] → t.ready.offsets ≡ []
+    → ((k : ShardKey) → queue_of t.queues k ≡ []) → IsShards order (set parts i t)
+shards-empty order parts i t within is entries ready queues = shards-with order parts i t t within
+    is [] [] (ap plain_entries entries) ready (omega arith)
+    (part-empty order i t.ready.places) (λ by k. queues k)
+
 -- ---- an offset that is the first of its key
 
 -- the part's state, of which the offset is the first of its ordering key
 pub record IsFound (order : Order) (parts : List Part) (i o : ℕ) (s : Part) : Type 0 where
   pub within : i < length parts
   pub own : slice_get parts i ≡ Some s
-  pub part : IsPart order i (plain_entries s.entries.items) s.ready.items (vec_capacity s.ready)
+  pub part : IsPart order i (plain_entries s.entries.items) s.ready.offsets s.ready.places
   pub first : is_first_offset order i (plain_entries s.entries.items) o ≡ true
+  pub queued : AreQueued order i (plain_entries s.entries.items) s
+
+-- the queues of a part
+pub own-queued : (order : Order) (parts : List Part) (i : ℕ) (s : Part) → IsShards order parts
+    → slice_get parts i ≡ Some s → AreQueued order i (plain_entries s.entries.items) s
+own-queued order parts i s is own by k = subst (λ (o : Option Part). queue_in o k
+    ≡ queue order i (entries_in o) (OfKey i (bytes_of k))) own (is.queued by i k)
 
 -- a test that no entry passes in a part that is not there shows that the part is
 own-part : (parts : List Part) (i : ℕ) (s : Part) (test : List Entry → Bool) → test [] ≡ false
@@ -154,19 +274,19 @@ own-part parts i s test none passes at =
     ] in
     (within, slice_get_read parts (length parts) i s refl within at)
 
-pub found : (order : Order) (queues : Queues) (parts : List Part) (i o : ℕ) (s : Part)
-    → IsShards order queues parts → is_first_offset order i (of_part (view order parts) i) o ≡ true
+pub found : (order : Order) (parts : List Part) (i o : ℕ) (s : Part)
+    → IsShards order parts → is_first_offset order i (of_part (view order parts) i) o ≡ true
     → s ≡ get_or parts i s → IsFound order parts i o s
-found order queues parts i o s is first at =
-    let there = own-part parts i s (λ es. is_first_offset order i es o) refl first at in
-    let within = there.0 in
-    let own = there.1 in
+found order parts i o s is first at =
+    let one = own-part parts i s (λ es. is_first_offset order i es o) refl first at in
+    let own = one.1 in
     record {
-      within = within;
+      within = one.0;
       own = own;
       part = subst (λ t. IsPartAt order i t) own (is.each i);
       first = subst (λ es. is_first_offset order i es o ≡ true) (of-all parts i
           ∙ ap entries_in own) first;
+      queued = own-queued order parts i s is own;
     }
 
 pub found-holds : (order : Order) (parts : List Part) (i o : ℕ) (s : Part)
@@ -177,6 +297,8 @@ found-holds order parts i o s f = let e = first-entry order i
     record {
       rises = f.part.rises;
       ready_rises = f.part.ready_rises;
+      apart = busy-apart order i (plain_entries s.entries.items) s.ready.offsets s.ready.places o
+          f.part;
       has = rw (← e.2) (In-map (λ (x : Entry). x.record.offset) e.0 (plain_entries s.entries.items) e.1);
     }
 
@@ -184,15 +306,16 @@ found-holds order parts i o s f = let e = first-entry order i
 pub record IsThere (order : Order) (parts : List Part) (i o : ℕ) (s : Part) : Type 0 where
   pub within : i < length parts
   pub own : slice_get parts i ≡ Some s
-  pub part : IsPart order i (plain_entries s.entries.items) s.ready.items (vec_capacity s.ready)
+  pub part : IsPart order i (plain_entries s.entries.items) s.ready.offsets s.ready.places
   pub entry : Entry
   pub has : In entry (plain_entries s.entries.items)
   pub at : entry.record.offset ≡ o
+  pub queued : AreQueued order i (plain_entries s.entries.items) s
 
-pub there : (order : Order) (queues : Queues) (parts : List Part) (i o : ℕ) (s : Part)
-    → IsShards order queues parts → has_entry_at o (of_part (view order parts) i) ≡ true
+pub there : (order : Order) (parts : List Part) (i o : ℕ) (s : Part)
+    → IsShards order parts → has_entry_at o (of_part (view order parts) i) ≡ true
     → s ≡ get_or parts i s → IsThere order parts i o s
-there order queues parts i o s is has at =
+there order parts i o s is has at =
     let one = own-part parts i s (λ es. has_entry_at o es) refl has at in
     let some = In-list_any (λ (e : Entry). e.record.offset == o) (plain_entries s.entries.items)
     (subst (λ es. has_entry_at o es ≡ true) (of-all parts i ∙ ap entries_in one.1) has) in
@@ -203,6 +326,7 @@ there order queues parts i o s is has at =
       entry = some.0;
       has = some.1;
       at = number-is some.0.record.offset o some.2;
+      queued = own-queued order parts i s is one.1;
     }
 
 pub there-holds : (order : Order) (parts : List Part) (i o : ℕ) (s : Part)
@@ -210,6 +334,8 @@ pub there-holds : (order : Order) (parts : List Part) (i o : ℕ) (s : Part)
 there-holds order parts i o s f = record {
   rises = f.part.rises;
   ready_rises = f.part.ready_rises;
+  apart = busy-apart order i (plain_entries s.entries.items) s.ready.offsets s.ready.places o
+      f.part;
   has = rw (← f.at) (In-map (λ (x : Entry). x.record.offset) f.entry (plain_entries s.entries.items)
       f.has);
 }
@@ -217,16 +343,11 @@ there-holds order parts i o s f = record {
 -- where its entry is busy, the offset is the first of its ordering key
 pub there-busy : (order : Order) (parts : List Part) (i o : ℕ) (s : Part)
     → IsThere order parts i o s → EachAt o (plain_entries s.entries.items) (λ e. e.is_busy ≡ true)
-    → IsFound order parts i o s
-there-busy order parts i o s f busy = record {
-  within = f.within;
-  own = f.own;
-  part = f.part;
-  first = list_any-In (λ (e : Entry). (e.record.offset == o)
-      && is_first order i (plain_entries s.entries.items) e) f.entry (plain_entries s.entries.items)
-      f.has (and-both (f.entry.record.offset == o) _ (number-same f.entry.record.offset o f.at)
-      (f.part.firsts f.entry f.has (busy f.entry f.has f.at)));
-}
+    → is_first_offset order i (plain_entries s.entries.items) o ≡ true
+there-busy order parts i o s f busy = list_any-In (λ (e : Entry). (e.record.offset == o)
+    && is_first order i (plain_entries s.entries.items) e) f.entry (plain_entries s.entries.items)
+    f.has (and-both (f.entry.record.offset == o) _ (number-same f.entry.record.offset o f.at)
+    (f.part.firsts f.entry f.has (busy f.entry f.has f.at)))
 
 -- what clauses see of the part
 pub found-view : (order : Order) (parts : List Part) (i o : ℕ) (s : Part)
@@ -246,59 +367,51 @@ failed-busy o e = elim (e.record.offset == o) as (λ c. (cond c (record
     { «record» = e.record; failures = e.failures + 1; is_busy = e.is_busy }) e).is_busy
     ≡ e.is_busy) [ true ↦ refl | false ↦ refl ]
 
-pub part-like : (order : Order) (i : ℕ) (s t : Part) (es : List Entry) (ready : List ℕ)
-    → plain_entries t.entries.items ≡ es → t.ready.items ≡ ready
-    → vec_capacity t.ready ≡ vec_capacity s.ready → IsPart order i es ready (vec_capacity s.ready)
-    → IsPart order i (plain_entries t.entries.items) t.ready.items (vec_capacity t.ready)
-part-like order i s t es ready entries offsets room part =
-    subst (λ xs. IsPart order i xs t.ready.items (vec_capacity t.ready)) (sym entries)
-    (subst (λ os. IsPart order i es os (vec_capacity t.ready)) (sym offsets)
-    (subst (λ n. IsPart order i es ready n) (sym room) part))
+-- the queues are those of entries that changed and kept their records
+same-queues : (order : Order) (i : ℕ) (s t : Part) → t.queues ≡ s.queues
+    → AreQueued order i (plain_entries s.entries.items) s
+    → (es : List Entry) → ((k : OrderingKey)
+    → queue order i es k ≡ queue order i (plain_entries s.entries.items) k)
+    → AreQueued order i es t
+same-queues order i s t queues queued es same by k = ap (λ v. queue_of v k) queues ∙ queued by k
+    ∙ sym (same (OfKey i (bytes_of k)))
 
-module _ (order : Order) (queues : Queues) (parts : List Part) (i o : ℕ) (s t : Part)
-    (is : IsShards order queues parts) (own : slice_get parts i ≡ Some s) where
-  -- the queues are those of the entries that were made busy or free
-  marked-queues : (b : Bool) → plain_entries t.entries.items
-      ≡ with_busy o b (plain_entries s.entries.items)
-      → (k : ShardKey) → part_of k ≡ i
-      → queue_of queues k ≡ queue order i (plain_entries t.entries.items) (plain_key k)
-  marked-queues b entries k at = is.queued k
-      ∙ ap (λ q. queue order q (entries_at parts q) (plain_key k)) at
-      ∙ ap (λ (u : Option Part). queue order i (entries_in u) (plain_key k)) own
-      ∙ sym (queue-with_busy order i o b (plain_entries s.entries.items) (plain_key k))
-      ∙ ap (λ (es : List Entry). queue order i es (plain_key k)) (sym entries)
-
-module _ (order : Order) (queues : Queues) (parts : List Part) (i o : ℕ) (s t : Part)
-    (is : IsShards order queues parts) (f : IsFound order parts i o s) where
+module _ (order : Order) (parts : List Part) (i o : ℕ) (s t : Part)
+    (is : IsShards order parts) (f : IsFound order parts i o s)
+    (queues : t.queues ≡ s.queues) (room : s.ready.places ≤ t.ready.places) where
   pub shards-busy : plain_entries t.entries.items ≡ with_busy o true (plain_entries s.entries.items)
-      → t.ready.items ≡ but o s.ready.items → vec_capacity t.ready ≡ vec_capacity s.ready
-      → IsShards order queues (set parts i t)
-  shards-busy entries ready room = shards-set order queues queues parts i t f.within is
-      (part-like order i s t (with_busy o true (plain_entries s.entries.items))
-      (but o s.ready.items) entries ready room
-      (made_busy order i (plain_entries s.entries.items) s.ready.items
-      (vec_capacity s.ready) o f.part f.first))
-      (marked-queues order queues parts i o s t is f.own true entries) (λ k other. refl)
+      → t.ready.offsets ≡ but o s.ready.offsets → IsShards order (set parts i t)
+  shards-busy entries ready = shards-with order parts i s t f.within is
+      (with_busy o true (plain_entries s.entries.items))
+      (but o s.ready.offsets) entries ready room
+      (made_busy order i (plain_entries s.entries.items) s.ready.offsets
+      s.ready.places o f.part f.first)
+      (same-queues order i s t queues f.queued (with_busy o true (plain_entries s.entries.items))
+      (queue-with_busy order i o true (plain_entries s.entries.items)))
 
   -- and those of entries that failed once more
   pub shards-failed : plain_entries t.entries.items
       ≡ with_failure o (plain_entries s.entries.items) → t.ready ≡ s.ready
-      → IsShards order queues (set parts i t)
-  shards-failed entries ready = shards-set order queues queues parts i t f.within is
-      (part-like order i s t (with_failure o (plain_entries s.entries.items)) s.ready.items entries
-      (ap (λ v. v.items) ready) (ap (λ v. vec_capacity v) ready)
+      → IsShards order (set parts i t)
+  shards-failed entries ready = shards-with order parts i s t f.within is
+      (with_failure o (plain_entries s.entries.items)) s.ready.offsets entries
+      (ap (λ v. v.offsets) ready) room
       (part-changed (failed o) (failed-record o) order i (plain_entries s.entries.items)
-      s.ready.items (vec_capacity s.ready) (failed-busy o) f.part))
-      (λ k at. is.queued k
-      ∙ ap (λ q. queue order q (entries_at parts q) (plain_key k)) at
-      ∙ ap (λ (u : Option Part). queue order i (entries_in u) (plain_key k)) f.own
-      ∙ sym (queue-changed (failed o) (failed-record o) order i (plain_entries s.entries.items)
-      (plain_key k))
-      ∙ ap (λ (es : List Entry). queue order i es (plain_key k)) (sym entries))
-      (λ k other. refl)
+      s.ready.offsets s.ready.places (failed-busy o) f.part)
+      (same-queues order i s t queues f.queued (with_failure o (plain_entries s.entries.items))
+      (queue-changed (failed o) (failed-record o) order i (plain_entries s.entries.items)))
 
-module _ (order : Order) (queues : Queues) (parts : List Part) (i o : ℕ) (s t : Part)
-    (is : IsShards order queues parts) (f : IsThere order parts i o s) where
+-- there is a place for one that is made free
+pub free-place : (order : Order) (parts : List Part) (i o : ℕ) (s : Part)
+    → IsThere order parts i o s
+    → EachAt o (plain_entries s.entries.items) (λ e. e.is_busy ≡ true)
+    → length s.ready.offsets < s.ready.places
+free-place order parts i o s f busy = busy-place order i (plain_entries s.entries.items)
+    s.ready.offsets s.ready.places o f.part (there-busy order parts i o s f busy) busy
+
+module _ (order : Order) (parts : List Part) (i o : ℕ) (s t : Part)
+    (is : IsShards order parts) (f : IsThere order parts i o s)
+    (queues : t.queues ≡ s.queues) (room : s.ready.places ≤ t.ready.places) where
   -- all entries at the offset are busy, or none is
   was : EachAt o (plain_entries s.entries.items) (λ e. e.is_busy ≡ true)
       ⊎ EachAt o (plain_entries s.entries.items) (λ e. e.is_busy ≡ false)
@@ -313,30 +426,28 @@ module _ (order : Order) (queues : Queues) (parts : List Part) (i o : ℕ) (s t 
         | inr free ↦ inr (λ x j at. one x j at ∙ free)
       ]
 
-  pub free-place : EachAt o (plain_entries s.entries.items) (λ e. e.is_busy ≡ true)
-      → length s.ready.items < vec_capacity s.ready
-  free-place busy = busy-place order i (plain_entries s.entries.items) s.ready.items
-      (vec_capacity s.ready) o
-      f.part (there-busy order parts i o s f busy).first busy
-
   pub shards-free : plain_entries t.entries.items
       ≡ with_busy o false (plain_entries s.entries.items)
       → (EachAt o (plain_entries s.entries.items) (λ e. e.is_busy ≡ true)
-      → t.ready.items ≡ put o s.ready.items)
+      → t.ready.offsets ≡ put o s.ready.offsets)
       → (EachAt o (plain_entries s.entries.items) (λ e. e.is_busy ≡ false)
-      → t.ready.items ≡ s.ready.items)
-      → vec_capacity t.ready ≡ vec_capacity s.ready → IsShards order queues (set parts i t)
-  shards-free entries ready same room = shards-set order queues queues parts i t f.within is
-      (elim was [
-        | inl busy ↦ part-like order i s t (with_busy o false (plain_entries s.entries.items))
-            (put o s.ready.items) entries
-            (ready busy) room (made_free order i (plain_entries s.entries.items) s.ready.items
-            (vec_capacity s.ready) o f.part (there-busy order parts i o s f busy).first busy)
-        | inr free ↦ part-like order i s t (plain_entries s.entries.items) s.ready.items
-            (entries ∙ with_busy-same o false (plain_entries s.entries.items) free)
-            (same free) room f.part
-      ])
-      (marked-queues order queues parts i o s t is f.own false entries) (λ k other. refl)
+      → t.ready.offsets ≡ s.ready.offsets)
+      → IsShards order (set parts i t)
+  shards-free entries ready same = elim was [
+    | inl busy ↦ shards-with order parts i s t f.within is
+        (with_busy o false (plain_entries s.entries.items))
+        (put o s.ready.offsets) entries
+        (ready busy) room (made_free order i (plain_entries s.entries.items) s.ready.offsets
+        s.ready.places o f.part (there-busy order parts i o s f busy) busy)
+        (same-queues order i s t queues f.queued
+        (with_busy o false (plain_entries s.entries.items))
+        (queue-with_busy order i o false (plain_entries s.entries.items)))
+    | inr free ↦ shards-with order parts i s t f.within is (plain_entries s.entries.items)
+        s.ready.offsets
+        (entries ∙ with_busy-same o false (plain_entries s.entries.items) free)
+        (same free) room f.part
+        (same-queues order i s t queues f.queued (plain_entries s.entries.items) (λ k. refl))
+  ]
 
 -- what clauses see of the part changes as its entries do
 pub view-there : (order : Order) (parts : List Part) (i o : ℕ) (s t : Part)
@@ -356,8 +467,13 @@ view-changed order parts i o s t f change entries = view-set order parts i t f.w
 
 -- ---- keys
 
--- the queue of a key goes by the ordering key
-pub queue_of-same : (queues : Queues) (k l : ShardKey) → plain_key k ≡ plain_key l
+-- the queue of a key goes by its bytes
+pub queue_of-same : (queues : Queues) (k l : ShardKey) → bytes_of k ≡ bytes_of l
     → queue_of queues k ≡ queue_of queues l
-queue_of-same queues k l same = ap (λ (p : OrderingKey). option_map_or (λ queue. queue.items)
-    (get_by (λ (j : ShardKey). same_key p (plain_key j)) queues.map) []) same
+queue_of-same queues k l same = ap (λ (p : Option (List ℕ)). option_map_or (λ queue. queue.items)
+    (get_by (λ (j : ShardKey). same_bytes p (bytes_of j)) queues.map) []) same
+
+-- by the key's bytes, an entry has the ordering key of them
+pub by-key : (order : Order) (p : ℕ) (e : Entry) → order ≡ ByKey
+    → key_of order p e ≡ OfKey p e.record.key
+by-key order p e by = ap (λ (o : Order). key_of o p e) by

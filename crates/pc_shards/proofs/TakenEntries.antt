@@ -155,7 +155,7 @@ module _ (order : Order) (p : ℕ) (es : List Entry) (ready : List ℕ) (places 
 
   module _ (n : ℕ) (head : slice_get (queue order p (without o es) (key_of order p f)) 0
       ≡ Some n) where
-    next-apart : In n (but o ready) → ⊥
+    pub next-apart : In n (but o ready) → ⊥
     next-apart i = (next-entry n head).1 (In-but n o ready i).0
 
     -- there is a place for the next of the key

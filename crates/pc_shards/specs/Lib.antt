@@ -5,3 +5,4 @@ pub mod Part
 pub mod Queues
 pub mod Shards
 pub mod OpenEntries
+pub mod Ready

@@ -6,6 +6,6 @@ use Rattle.pc_shards.specs.declared.shard_key.ShardKey.{ShardKey}
 use Rattle.pc_shards.specs.declared.queues.Queues.{Queues}
 use Rattle.pc_shards.specs.ShardKey.{is_same}
 
--- the queue of an ordering key, which is empty where there is none
+-- the queue of a key, which is empty where there is none
 abbrev pub queue_of : Queues → ShardKey → List ℕ
 queue_of queues k = option_map_or (λ queue. queue.items) (get_by (is_same k) queues.map) []

@@ -20,3 +20,8 @@ put n (x ∷ xs) = if nat_le n x then n ∷ x ∷ xs else x ∷ put n xs
 -- the numbers without this one
 abbrev pub but : ℕ → List ℕ → List ℕ
 but n xs = filter (λ x. not (x == n)) xs
+
+-- the numbers in rising order
+abbrev pub rising : List ℕ → List ℕ
+rising [] = []
+rising (x ∷ xs) = put x (rising xs)

@@ -4,7 +4,7 @@
 
 mod part;
 mod queues;
-mod rising;
+mod ready;
 mod shard_key;
 mod shards;
 

@@ -1,16 +1,16 @@
-//! The queue of offsets of each ordering key. Clauses see a queue by `queue_of`.
+//! The queue of offsets of each key of a part. Clauses see a queue by `queue_of`.
 
-ghost use Rattle.std.specs.Prelude.{not, ◌≡◌, ◌==◌, length, ◌++◌, [], ◌∷◌, IfOk, OnErr, OnOk, true, false, drop, slice_get, ◌-◌, take};
+ghost use Rattle.std.specs.Prelude.{◌≡◌, ◌==◌, length, ◌++◌, [], ◌∷◌, IfOk, OnErr, OnOk, false, drop, slice_get, ◌-◌, take};
 ghost use Rattle.pc_shards.specs.declared.shard_key.ShardKey.{ShardKey};
 ghost use Rattle.pc_shards.specs.Queues.{queue_of};
-ghost use Rattle.pc_shards.specs.ShardKey.{is_same, part_of};
+ghost use Rattle.pc_shards.specs.ShardKey.{is_same};
 
-use crate::shard_key::{self, ShardKey};
+use crate::shard_key::ShardKey;
 use indexmap::IndexMap;
 use std::alloc::{AllocError, Global};
 use std::collections::VecDeque;
 
-/// The offsets of each ordering key, in the order in which they were added.
+/// The offsets of each key, in the order in which they were added.
 #[derive(Drop)]
 pub struct Queues<'a> {
     alloc: Global,
@@ -79,18 +79,5 @@ impl<'a> Queues<'a> {
         if queue.is_empty() {
             self.map.swap_remove(&key);
         }
-    }
-
-    /// Empties the queues of the part's keys.
-    pub fn drop_part(&mut self, part: u32)
-        ensures dropped { (k : ShardKey) → part_of k ≡ part → queue_of self.new k ≡ [] }
-        ensures others { (k : ShardKey) → (part_of k == part) ≡ false
-            → queue_of self.new k ≡ queue_of self.old k }
-    {
-        self.map.retain(
-            |key: &ShardKey<'_>, queue: &mut VecDeque<u64>| -> bool
-                ensures { (result ≡ not (part_of key.now == part)) × (queue.new ≡ queue.old) }
-            { shard_key::part(key) != part },
-        );
     }
 }

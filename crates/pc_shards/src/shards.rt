@@ -11,8 +11,7 @@ ghost use Rattle.pc_shards.specs.Shards.{HasRoomAt, KeepsParts};
 ghost use Rattle.pc_shards.specs.Entries.{BusyAreFirst, ChangesNothing, ChangesOnly, bare_record, entry_at, has_entry_at, is_first_offset, least_ready_of, new_entries, new_entry, of_part, with_busy, with_failure, without};
 
 use crate::part::{EntryRef, Part};
-use crate::queues::Queues;
-use crate::shard_key;
+use crate::shard_key::ShardKey;
 use pc_batch::{Headers, RecordRef};
 use pc_model::Order;
 use std::alloc::{AllocError, Global};
@@ -25,8 +24,6 @@ use std::marker::Model;
 pub struct Shards<'a> {
     alloc: Global,
     order: Order,
-    // The offsets of each ordering key.
-    queues: Queues<'a>,
     // The parts from 0 on.
     parts: Vec<Part<'a>>,
 }
@@ -39,7 +36,7 @@ impl<'a> Model for Shards<'a> {
 
     ghost view = { λ s. record { order = s.order; parts = all_entries s.parts.items } };
 
-    ghost invariant = { λ s. IsShards s.order s.queues s.parts.items };
+    ghost invariant = { λ s. IsShards s.order s.parts.items };
 }
 
 impl<'a> Shards<'a> {
@@ -51,7 +48,6 @@ impl<'a> Shards<'a> {
         Shards {
             alloc,
             order,
-            queues: Queues::new(alloc),
             parts: Vec::new(alloc),
         }
     }
@@ -86,9 +82,7 @@ impl<'a> Shards<'a> {
         ensures stays { OnErr result (ChangesNothing self.old self.new) }
     {
         make_room(&mut self.parts, self.alloc, part as usize)?;
-        let shard = shard_key::of_record(self.order, part, added.offset, added.key);
-        let is_first = self.queues.push(shard, added.offset)?;
-        self.parts[part as usize].push(added, is_first);
+        self.parts[part as usize].add(self.order, added)?;
         Ok(())
     }
 
@@ -141,7 +135,7 @@ impl<'a> Shards<'a> {
         ensures singly { BusyAreFirst self.now.order part (of_part self.now part) }
     {
         let state = self.parts.as_slice().get(part as usize)?;
-        state.ready.as_slice().first().copied()
+        state.ready.least()
     }
 
     /// Makes an offset busy that is the first of its ordering key, so that no other of the key is
@@ -184,8 +178,7 @@ impl<'a> Shards<'a> {
     {
         let state = &mut self.parts[part as usize];
         let key = state.take(offset);
-        let shard = shard_key::of_record(self.order, part, offset, key);
-        if let Some(next) = self.queues.pop(shard) {
+        if let Some(next) = state.advance(self.order, ShardKey { bytes: key }) {
             state.make_ready(next);
         }
     }
@@ -198,9 +191,7 @@ impl<'a> Shards<'a> {
         let Some(state) = self.parts.get_mut(part as usize) else {
             return;
         };
-        state.entries.clear();
-        state.ready.clear();
-        self.queues.drop_part(part);
+        *state = Part::new(self.alloc);
     }
 
     /// Takes out all of every part. Takes no memory.
@@ -218,7 +209,7 @@ impl<'a> Shards<'a> {
         let Some(state) = self.parts.as_slice().get(part as usize) else {
             return 0;
         };
-        state.entries.as_slice().len()
+        state.entries.len()
     }
 
     /// Takes out the last entry of the part.
@@ -228,9 +219,10 @@ impl<'a> Shards<'a> {
             ≡ take (length (of_part self.old part) - 1) (of_part self.old part) }
         ensures others { ChangesOnly part self.old self.new }
     {
-        let entry = self.parts[part as usize].pop();
-        let shard = shard_key::of_record(self.order, part, entry.record.offset, entry.record.key);
-        self.queues.pop_back(shard);
+        let state = &mut self.parts[part as usize];
+        let entry = state.pop();
+        let key = entry.record.key;
+        state.retract(self.order, ShardKey { bytes: key });
     }
 }
 

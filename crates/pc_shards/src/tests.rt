@@ -109,15 +109,20 @@ fn failures_are_counted(rt: HostRuntime) -> Result<(), Fail> {
 
 #[test]
 fn cut_back_to_each_length(rt: HostRuntime) -> Result<(), Fail> {
-    for (len, first, second, third) in [
-        (3, Some(4), Some(6), Some(7)),
-        (2, Some(4), Some(6), None),
-        (1, Some(4), None, None),
-        (0, None, None, None),
+    for (order, len, first, second, third) in [
+        (Order::Key, 3, Some(4), Some(6), Some(7)),
+        (Order::Key, 2, Some(4), Some(6), None),
+        (Order::Key, 1, Some(4), None, None),
+        (Order::Key, 0, None, None, None),
+        (Order::None, 3, Some(4), Some(6), Some(7)),
+        (Order::None, 2, Some(4), Some(6), None),
+        (Order::Partition, 3, Some(4), None, Some(6)),
+        (Order::Partition, 1, Some(4), None, None),
     ] {
-        let mut shards = Shards::new(rt.alloc(), Order::Key);
+        let mut shards = Shards::new(rt.alloc(), order);
         shards.add_all(0, &[(4, Some(b"a")), (6, None), (7, Some(b"a"))])?;
         shards.truncate(0, len);
+        assert_eq!(rt; shards.count(0), len);
         let least = busy_next(&mut shards);
         assert_eq!(rt; least, first);
         assert_eq!(rt; busy_next(&mut shards), second);

@@ -1,10 +1,9 @@
 -- The place where the entries stop being below the offset.
-use Rattle.std.proofs.Common.{◌<◌, ◌≤◌, ltb, List, length, rules, sym, subst}
+use Rattle.std.proofs.Common.{◌<◌, ◌≤◌, ltb, length, rules, subst}
 use Rattle.std.specs.List.{AllWithin}
 use Rattle.std.proofs.lemmas.Bool.{ltb-true, ltb-false}
 use Rattle.std.proofs.lemmas.List.Sorted.{IsPartitionPoint-from_clause, IsPartitionedBy-ltb}
 use Rattle.pc_shards.specs.declared.part.EntryRef.{EntryRef}
-use Rattle.pc_shards.specs.Part.{offsets_of, plain_entries}
 use Rattle.pc_shards.specs.Rising.{Rises}
 use Rattle.pc_shards.proofs.RisingLemmas.{rises-non_decreasing}
 use Rattle.pc_shards.proofs.PartLemmas.{offsets-plain}
@@ -12,14 +11,13 @@ use Rattle.pc_shards.proofs.part.Part.count_below.Goals as goal
 use Rattle.pc_shards.proofs.part.Part.count_below.Goals.{After-partition_point}
 
 sides : (c : After-partition_point)
-    → AllWithin (λ (x : EntryRef). x.record.offset < c.args.offset) c.as_slice.result.now 0
+    → AllWithin (λ (x : EntryRef). x.record.offset < c.args.offset) c.args.self.now.entries.items 0
     c.partition_point.result
-    × AllWithin (λ (x : EntryRef). c.args.offset ≤ x.record.offset) c.as_slice.result.now
-    c.partition_point.result (length c.as_slice.result.now)
+    × AllWithin (λ (x : EntryRef). c.args.offset ≤ x.record.offset) c.args.self.now.entries.items
+    c.partition_point.result (length c.args.self.now.entries.items)
 sides c =
-    let es = c.as_slice.result.now in
-    let rises = subst Rises (offsets-plain es) (subst (λ (xs : List EntryRef). Rises
-    (offsets_of (plain_entries xs))) (sym c.as_slice.ensures.value) c.requires) in
+    let es = c.args.self.now.entries.items in
+    let rises = subst Rises (offsets-plain es) c.requires in
     let point = IsPartitionPoint-from_clause (λ (e : EntryRef). ltb e.record.offset c.args.offset) es
     c.partition_point.result c.partition_point.ensures.partitioned
     (IsPartitionedBy-ltb (λ e. e.record.offset) es c.args.offset
@@ -29,7 +27,7 @@ sides c =
     )
 
 pub returns-clause-below : goal.returns-clause-below
-returns-clause-below c = rw c.as_slice.ensures.value at ((sides c).0)
+returns-clause-below c = (sides c).0
 
 pub returns-clause-above : goal.returns-clause-above
-returns-clause-above c = rw c.as_slice.ensures.value at ((sides c).1)
+returns-clause-above c = (sides c).1

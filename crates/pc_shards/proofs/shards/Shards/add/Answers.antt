@@ -1,5 +1,4 @@
 -- A record without headers is the one of which nothing but the offset and the key is known.
-use Rattle.std.proofs.Common.{ap, ◌∙◌}
 use Rattle.pc_shards.proofs.shards.Shards.add.Goals as goal
 
 pub returns-clause-added : goal.returns-clause-added
