@@ -16,14 +16,14 @@ use Rattle.pc_model.specs.Next.{is_first as is_first_record}
 use Rattle.pc_model.specs.Retry.{failures_of}
 use Rattle.pc_model.specs.Lawful.{IsLegal}
 use Rattle.pc_laws.specs.Lists.{In}
-use Rattle.pc_laws.proofs.Lists.{In-append_left, In-filter, In-find, In-map, list_any-In, true-not-false}
+use Rattle.pc_laws.proofs.Lists.{In-append_left, In-filter, In-filtered, In-find, In-map, In-mapped, list_any-In, true-not-false}
 use Rattle.pc_laws.proofs.FirstLaw.{job-first, record_at-In}
 use Rattle.pc_laws.proofs.KeptLaw.{is_kept}
 use Rattle.pc_laws.proofs.Rising.{Rises-same, legal-rises}
 use Rattle.pc_laws.proofs.OrderlyLaw.{polled-record}
 use Rattle.pc_laws.proofs.Passing.{In-incomplete, option_cases}
 use Rattle.pc_shards.proofs.Lists.{and-both}
-use Rattle.pc_shards.specs.Entries.{Entry, is_first, is_first_offset, of_part}
+use Rattle.pc_shards.specs.Entries.{Entry, entry_at, is_first, is_first_offset, of_part}
 use Rattle.pc_shards.specs.OpenEntries.{entry_of, open_entries}
 use Rattle.pc_shards.proofs.OpenEntriesLaws.{is_first-entry}
 use Rattle.pc_state.specs.declared.jobs.OpenJob.{OpenJob}
@@ -32,7 +32,7 @@ use Rattle.pc_state.specs.declared.part.PartState.{PartState}
 use Rattle.pc_state.specs.declared.state.State.{State}
 use Rattle.pc_state.specs.OpenJobs.{kept_job, open_job}
 use Rattle.pc_state.specs.State.{Knows, KnowsHeld, KnowsPart, PartKeeps, entries_of, is_kept_back}
-use Rattle.pc_state.proofs.StateLemmas.{entries-held}
+use Rattle.pc_state.proofs.StateLemmas.{entries-free, entries-held}
 
 -- the job of a ticket, which is out and current
 pub record IsAtWork (given : Given) (h : List Event) (t p o : ℕ) : Type 0 where
@@ -200,13 +200,32 @@ window-incomplete given h p o held at knows =
     (subst (λ (u : ℕ). is_complete h p u ≡ false) (sym at.offset) at.incomplete))
     (eq-eqb at.entry.offset o at.offset))
 
--- the record of the logs that the state has
-pub logs-record : (given : Given) (h : List Event) (s : State) (p o : ℕ) → Knows given h s
-    → find (λ r. r.offset == o) (unwrap_or (option_flatten (slice_get s.logs.now p)) [])
-    ≡ record_at given p o
-logs-record given h s p o knows = ap (λ (logs : List (Option (List Record))).
-    find (λ (r : Record). r.offset == o) (unwrap_or (option_flatten (slice_get logs p)) []))
-    (sym knows.logs)
+-- the record of an entry that the state has is the log's
+pub entry-record : (given : Given) (h : List Event) (s : State) (p o : ℕ) (e : Entry)
+    → Knows given h s → entry_at o (of_part s.shards p) ≡ Some e
+    → record_at given p o ≡ Some e.record
+entry-record given h s p o e knows found = elim (cases_Bool (is_held h p)) [
+  | inl held ↦
+      let busy : Record → Bool = λ r. is_kept_back given h p r.offset in
+      let failures : Record → ℕ = λ r. failures_of h p r.offset in
+      let here : entry_at o (open_entries given h p busy failures) ≡ Some e =
+      rw (knows.entries p, entries-held given h p held) at found in
+      let in_part = In-find (λ (x : Entry). x.record.offset == o) e
+      (open_entries given h p busy failures) here in
+      let from = In-mapped (entry_of busy failures) e
+      (filter (λ (r : Record). not (is_complete h p r.offset)) (polled_records given h p)) in_part.0 in
+      let polled = (In-filtered (λ (r : Record). not (is_complete h p r.offset)) from.0
+      (polled_records given h p) from.1).0 in
+      let same : from.0 ≡ e.record = ap (λ (x : Entry). x.record) from.2 in
+      subst (λ (r : Record). record_at given p o ≡ Some r) same
+      (subst (λ (u : ℕ). record_at given p u ≡ Some from.0)
+      (ap (λ (r : Record). r.offset) same ∙ eqb-true e.record.offset o in_part.1)
+      (record_at-In given h knows.legal p from.0 (polled-record given h p from.0 polled).0))
+  | inr free ↦
+      let nothing : ◌≡◌ {A = Option Entry} None (Some e) =
+      rw (knows.entries p, entries-free given h p free) at found in
+      cc nothing
+]
 
 -- what is kept of the part
 pub held-known : (given : Given) (h : List Event) (s : State) (p : ℕ) (part : PartState)

@@ -1,12 +1,12 @@
 -- Which results are expected: those of a job that is out, of the record in the logs.
-use Rattle.std.proofs.Common.{◌≡◌, ℕ, Bool, true, false, not, ◌==◌, List, [], Option, Some, None, ap, sym, ◌∙◌, slice_get}
-use Rattle.std.specs.Prelude.{find, IsTrue, ◌↔◌}
-use Rattle.std.specs.Option.{option_eq, option_flatten, option_map, unwrap_or}
+use Rattle.std.proofs.Common.{◌≡◌, ℕ, Bool, true, false, not, ◌==◌, List, Option, Some, None, ap, sym, ◌∙◌}
+use Rattle.std.specs.Prelude.{IsTrue, ◌↔◌}
+use Rattle.std.specs.Option.{option_eq, option_map}
 use Rattle.std.proofs.lemmas.Bool.{eqb-true}
 use Rattle.pc_model.specs.declared.event.Event.{Event}
 use Rattle.pc_model.specs.Record.{Record}
 use Rattle.pc_model.specs.declared.outcome.Rules.{Rules}
-use Rattle.pc_model.specs.Given.{Given}
+use Rattle.pc_model.specs.Given.{Given, record_at}
 use Rattle.pc_laws.proofs.Lists.{and-left, and-right, not-false}
 use Rattle.pc_state.specs.contracts.jobs.OpenJobPartialEq.TheImpl as job_eq
 use Rattle.pc_state.specs.declared.jobs.OpenJob.{OpenJob}
@@ -14,7 +14,6 @@ use Rattle.pc_state.specs.declared.state.State.{State}
 use Rattle.pc_task.specs.Jobs.{PlainJob}
 use Rattle.pc_state.specs.Calls.{IsExpected}
 use Rattle.pc_state.specs.OpenJobs.{kept_job, open_job}
-use Rattle.pc_state.proofs.AtWork.{logs-record}
 use Rattle.pc_state.specs.State.{Knows}
 
 -- the job as it is kept where it is out
@@ -22,40 +21,30 @@ abbrev pub kept_of : PlainJob → OpenJob
 kept_of job = record
     { part = job.part; offset = job.entry.offset; epoch = job.epoch; attempt = job.attempt }
 
--- the record of the logs at its offset
-abbrev found_in : State → PlainJob → Option Record
-found_in s job = find (λ r. r.offset == job.entry.offset)
-    (unwrap_or (option_flatten (slice_get s.logs.now job.part)) [])
-
--- a result of the job that is out, by the record that the logs have
+-- a result of the job that is out, by the record that the log has
 pub expected-found : (given : Given) (h : List Event) (s : State) (job : PlainJob) (entry : Record)
     (rules : Rules) (out : Option OpenJob) (b : Bool) → Knows given h s
     → out ≡ option_map kept_job (open_job h job.ticket) → out ≡ Some (kept_of job)
-    → Some entry ≡ found_in s job → rules ≡ s.setup.now.settings.rules
+    → Some entry ≡ record_at given job.part job.entry.offset → rules ≡ s.setup.now.settings.rules
     → (IsTrue b ↔ ((job.entry ≡ entry) × (job.rules ≡ rules))) → (IsTrue b ↔ IsExpected given h job)
 expected-found given h s job entry rules out b knows out_is kept found rules_is is = (
   λ t. record {
     out = sym out_is ∙ kept;
-    entry = sym (logs-record given h s job.part job.entry.offset knows) ∙ sym found ∙ ap
-        (λ (r : Record). Some r)
-        (sym (is.0 t).0);
+    entry = sym found ∙ ap (λ (r : Record). Some r) (sym (is.0 t).0);
     rules = (is.0 t).1 ∙ rules_is ∙ ap (λ setup. setup.settings.rules) (sym knows.setup);
   },
   λ e.
-      let same : Some job.entry ≡ Some entry = sym e.entry ∙ sym
-      (logs-record given h s job.part job.entry.offset knows)
-      ∙ sym found in
+      let same : Some job.entry ≡ Some entry = sym e.entry ∙ sym found in
       is.1 (cc, e.rules ∙ ap (λ setup. setup.settings.rules) knows.setup ∙ sym rules_is),
 )
 
--- nor any where the logs have none
-pub expected-lost : (given : Given) (h : List Event) (s : State) (job : PlainJob) → Knows given h s
-    → None ≡ found_in s job → (IsTrue false ↔ IsExpected given h job)
-expected-lost given h s job knows lost = (
+-- nor any where the log has none
+pub expected-lost : (given : Given) (h : List Event) (job : PlainJob)
+    → None ≡ record_at given job.part job.entry.offset → (IsTrue false ↔ IsExpected given h job)
+expected-lost given h job lost = (
   λ t. cc,
   λ e.
-      let nothing : ◌≡◌ {A = Option Record} None (Some job.entry) =
-      lost ∙ logs-record given h s job.part job.entry.offset knows ∙ e.entry in cc,
+      let nothing : ◌≡◌ {A = Option Record} None (Some job.entry) = lost ∙ e.entry in cc,
 )
 
 -- jobs that are the same by the test are the same

@@ -4,8 +4,9 @@ ghost use Rattle.std.specs.Prelude.{◌≡◌, ◌↔◌, ℕ, IsTrue, List, [],
 ghost use Rattle.std.specs.Option.{option_map_or};
 ghost use Rattle.pc_model.specs.declared.event.Event.{Event};
 ghost use Rattle.pc_model.specs.declared.event.Event.TheVariants.{Failure, Stale, Success};
-ghost use Rattle.pc_model.specs.Given.{Given};
+ghost use Rattle.pc_model.specs.Given.{Given, record_at};
 ghost use Rattle.pc_model.specs.Epochs.{epoch_of, is_held};
+ghost use Rattle.pc_batch.specs.Record.{plain};
 ghost use Rattle.pc_shards.specs.Entries.{entry_at, of_part};
 ghost use Rattle.pc_task.specs.Jobs.{finished_job};
 ghost use Rattle.pc_state.specs.Calls.{IsExpected};
@@ -15,6 +16,7 @@ ghost use Rattle.pc_state.specs.State.{Knows, MayCome};
 
 use crate::jobs::OpenJob;
 use crate::state::State;
+use pc_batch::RecordRef;
 use pc_task::Finished;
 
 impl<'a> State<'a> {
@@ -32,9 +34,21 @@ impl<'a> State<'a> {
         if self.jobs.get(done.ticket) != Some(job) {
             return false;
         }
-        match self.logs.record(done.part, done.entry.offset) {
+        match self.record(done.part, done.entry.offset) {
             Some(entry) => done.is_of(&entry, &self.setup.settings.rules),
             None => false,
+        }
+    }
+
+    /// The log's record at the offset, if there is one. One that was polled in the part's present
+    /// epoch and is incomplete is found without reading the log.
+    fn record(&self, part: u32, offset: u64) -> Option<RecordRef<'_>>
+        ensures { (given : Given) (h : List Event) → Knows given h self.now
+            → option_map plain result ≡ record_at given part offset }
+    {
+        match self.shards.entry(part, offset) {
+            Some(entry) => Some(entry.record),
+            None => self.logs.record(part, offset),
         }
     }
 

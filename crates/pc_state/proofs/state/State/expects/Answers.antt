@@ -10,10 +10,9 @@ returns-in-Some c = λ given h knows. expected-found given h c.args.self.now
     (finished_job c.args.done.now)
     (plain c.in-Some.entry) c.args.self.now.setup.now.settings.rules c.get.result c.is_of.result knows
     (c.get.ensures h knows.jobs)
-    (out-same c.get.result _ c.ne.result c.if-ne.false c.ne.ensures) c.in-Some.ensures refl
+    (out-same c.get.result _ c.ne.result c.if-ne.false c.ne.ensures) (c.in-Some.ensures given h knows) refl
     c.is_of.ensures
 
 pub returns-in-None : goal.returns-in-None
-returns-in-None c = λ given h knows. expected-lost given h c.args.self.now
-    (finished_job c.args.done.now)
-    knows c.in-None.ensures
+returns-in-None c = λ given h knows. expected-lost given h (finished_job c.args.done.now)
+    (c.in-None.ensures given h knows)
