@@ -1,20 +1,23 @@
--- What a run is given: the setup, the logs, what was stored before, and whether the link tells its
--- store.
+-- What a run is given: the setup, the logs, what was stored before, whether the link tells its store,
+-- and the outcomes of the function that is run on the records.
 use Rattle.std.specs.Prelude.{ℕ, suc, ◌-◌, ◌^◌, Bool, true, ◌&&◌, ◌==◌, nat_le, nat_lt, List, [], ◌∷◌, length, Option, is_some, unwrap_or, find, slice_get}
 use Rattle.std.specs.List.{list_all, range_with_len}
 use Rattle.std.specs.Option.{option_map_or, option_flatten}
 use Rattle.pc_model.specs.declared.setup.Setup.{Setup}
+use Rattle.pc_model.specs.declared.outcome.Outcome.{Outcome}
 use Rattle.pc_model.specs.declared.outcome.Start.{Start}
 use Rattle.pc_model.specs.declared.commit.Commit.{Commit}
 use Rattle.pc_model.specs.Record.{Record}
 
--- the four things that every definition of a history is read against. The log of part p stands at
--- place p of `logs`
+-- the five things that every definition of a history is read against. The log of part p stands at
+-- place p of `logs`. The outcome of an attempt goes by the part, the record, and the attempt, counted
+-- from 1, and by nothing else
 pub record Given : Type 0 where
   pub setup : Setup
   pub logs : List (Option (List Record))
   pub start : List Start
   pub is_told : Bool
+  pub outcome : ℕ → Record → ℕ → Outcome
 
 -- whether the part has a log
 abbrev pub has_log : Given → ℕ → Bool

@@ -46,7 +46,7 @@ pub record DispatchIsLawful (given : Given) (h : List Event) (ticket worker p o 
   pub epoch_is : epoch ≡ epoch_of h p
   pub attempt_is : attempt ≡ failures_of h p o + 1
 
--- a success may come: the ticket is outstanding and current, and the rules give this answer
+-- a success may come: the ticket is outstanding and current, and the function gives this answer
 pub record SuccessIsLawful (given : Given) (h : List Event) (ticket : ℕ) (answer : List ℕ)
     : Type 0 where
   pub outstanding : is_outstanding h ticket ≡ true

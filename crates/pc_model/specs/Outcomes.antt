@@ -1,4 +1,4 @@
--- The outcome of a function, by the rules.
+-- The outcome of an attempt, and the outcomes of the program's functions, by the rules.
 use Rattle.std.specs.Prelude.{ℕ, false, ◌&&◌, ◌==◌, nat_le, if◌then◌else◌, List, length, sum, decimal, codes, Option, Some, None, find, option_map, option_and_then}
 use Rattle.std.specs.Option.{option_map_or}
 use Rattle.hex.specs.Hex.{encode_lower}
@@ -25,7 +25,7 @@ answer_of Hex (Some bytes) = encode_lower bytes
 abbrev pub fail_rule_of : List FailRule → ℕ → ℕ → Option FailRule
 fail_rule_of fails p o = find (λ f. (f.part == p) && (f.offset == o)) fails
 
--- the outcome of an attempt, counted from 1: it fails with code 1 as often as the rule says, and
+-- the outcome of an attempt by the rules, counted from 1: it fails with code 1 as often as the rule says, and
 -- then succeeds
 abbrev pub outcome_of : Rules → ℕ → Record → ℕ → Outcome
 outcome_of rules p r attempt = if option_map_or (λ f. nat_le attempt f.times)
@@ -34,7 +34,7 @@ outcome_of rules p r attempt = if option_map_or (λ f. nat_le attempt f.times)
 
 -- the outcome of a job's attempt, if its record is in the log
 abbrev pub job_outcome : Given → Job → Option Outcome
-job_outcome given j = option_map (λ r. outcome_of given.setup.settings.rules j.part r j.attempt)
+job_outcome given j = option_map (λ r. given.outcome j.part r j.attempt)
     (record_at given j.part j.offset)
 
 -- the outcome of a ticket's attempt, if it was dispatched

@@ -10,6 +10,7 @@ use Rattle.pc_model.specs.declared.event.Event.TheVariants.{Assign, Poll, Dispat
 use Rattle.pc_model.specs.Record.{Record}
 use Rattle.pc_model.specs.Given.{Given}
 use Rattle.pc_model.specs.Defaults.{default_settings}
+use Rattle.pc_model.specs.Outcomes.{outcome_of}
 use Rattle.pc_model.specs.Ranges.{settings_fault}
 use Rattle.pc_model.specs.Test.{is_legal}
 
@@ -47,7 +48,13 @@ pressed_setup = record { settings = record default_settings { map_limit = 8 }; i
 
 -- the log as part 0 under a setup, nothing stored before, over a link that tells its store
 abbrev pub row_given : Setup → Given
-row_given setup = record { setup = setup; logs = Some row_log ∷ []; start = []; is_told = true }
+row_given setup = record {
+  setup = setup;
+  logs = Some row_log ∷ [];
+  start = [];
+  is_told = true;
+  outcome = outcome_of setup.settings.rules;
+}
 
 -- the map of the bits 0 and 1
 abbrev pub two_bits : List ℕ
