@@ -13,7 +13,8 @@ use Rattle.pc_script.specs.declared.play.PlayAct.{PlayAct}
 use Rattle.pc_script.specs.declared.play.PlayAct.TheVariants.{Assign, Commit, Poll, Take, End, Tick, Revoke, Lose, Crash}
 use Rattle.pc_offset_client.specs.declared.fault.ClientFault.{ClientFault}
 use Rattle.pc_offset_client.specs.declared.fault.ClientFault.TheVariants as client
-use Rattle.pc_task.specs.Jobs.{PlainJob, due_outcome, finished_job}
+use Rattle.pc_task.specs.Jobs.{PlainJob, due_outcome}
+use Rattle.pc_task.specs.Results.{finished_job}
 use Rattle.pc_task.specs.declared.finished.Finished.{Finished}
 use Rattle.pc_engine.specs.declared.engine.Committed.{Committed}
 use Rattle.pc_engine.specs.declared.fault.EngineFault.{EngineFault}

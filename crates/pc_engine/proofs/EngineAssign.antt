@@ -13,6 +13,7 @@ use Rattle.pc_model.specs.Stored.{may_store}
 use Rattle.pc_laws.specs.Lists.{In}
 use Rattle.pc_commit.specs.Resume.{map_refusal}
 use Rattle.pc_state.specs.declared.state.State.{State}
+use Rattle.pc_task.specs.Jobs.{Outcomes}
 use Rattle.pc_engine.specs.Effect.{Does, assign_refusal, assign_step}
 use Rattle.pc_engine.specs.Engine.{IsEngine, first_assigned}
 use Rattle.pc_state.specs.State.{Knows, MayCome}
@@ -21,11 +22,11 @@ use Rattle.pc_engine.proofs.EngineLemmas.{In-entry, MayAssign, assign-does, give
 use Rattle.pc_engine.proofs.EngineStep.{given_to, given-known}
 use Rattle.pc_state.proofs.PartEvents.{log-below}
 
-module _ (state : State) (h : List Event) (told : Bool) (kept : ℕ → Commit) (room : ℕ)
-    (keeps : IsEngine (given_to state h told kept) kept state room h) (p : ℕ)
-    (none : assign_refusal (given_to state h told kept) h p ≡ None) where
+module _ (state : State) (h : List Event) (told : Bool) (outcomes : Outcomes) (kept : ℕ → Commit) (room : ℕ)
+    (keeps : IsEngine (given_to state h told outcomes kept) kept state room h) (p : ℕ)
+    (none : assign_refusal (given_to state h told outcomes kept) h p ≡ None) where
   abbrev given : Given
-  given = given_to state h told kept
+  given = given_to state h told outcomes kept
 
   may : MayAssign given h p
   may = may_assign given h p none
@@ -87,9 +88,9 @@ module _ (state : State) (h : List Event) (told : Bool) (kept : ℕ → Commit) 
 
       pub assigned-given : given_to new h' told' kept' ≡ given
       assigned-given = ap (λ (b : Bool). given_to new h' b kept') same_told
-          ∙ ap (λ (k : List Event). given_to new k told kept') event-is
-          ∙ given_by-same new.setup.now new.logs.now h (event ∷ h) told kept kept' same-first
-          ∙ given-known state new h (event ∷ h) told kept (knows may-come)
+          ∙ ap (λ (k : List Event). given_to new k told outcomes kept') event-is
+          ∙ given_by-same new.setup.now new.logs.now h (event ∷ h) told outcomes kept kept' same-first
+          ∙ given-known state new h (event ∷ h) told outcomes kept (knows may-come)
 
       pub assigned-keeps : IsEngine (given_to new h' told' kept') kept' new room' h'
       assigned-keeps = subst (λ (x : Given). IsEngine x kept' new room' h') (sym assigned-given)
@@ -103,5 +104,5 @@ module _ (state : State) (h : List Event) (told : Bool) (kept : ℕ → Commit) 
 
       pub assigned-does : map_refusal state.setup.now.settings.bad_map stored ≡ None
           → Does {A = Unit {0}} (Ok tt) (assign_step given h p (Ok stored)) h h'
-      assigned-does reads = assign-does state.setup.now state.logs.now h told kept p
+      assigned-does reads = assign-does state.setup.now state.logs.now h told outcomes kept p
           (epoch_of h p) stored h' none reads refl event-is

@@ -19,6 +19,7 @@ use Rattle.pc_laws.proofs.Lists.{In-append_left, In-append_right, true-not-false
 use Rattle.pc_offset_client.specs.declared.fault.ClientFault.{ClientFault}
 use Rattle.pc_offset_client.specs.declared.fault.ClientFault.TheVariants as client
 use Rattle.pc_offset_client.specs.Client.{CommitGives}
+use Rattle.pc_task.specs.Jobs.{Outcomes}
 use Rattle.pc_engine.specs.declared.engine.Committed.{Committed as Receipt}
 use Rattle.pc_engine.specs.declared.fault.EngineFault.TheVariants.{Client}
 use Rattle.pc_state.specs.declared.state.State.{State}
@@ -31,12 +32,12 @@ use Rattle.pc_engine.proofs.EngineStep.{given_to, given-known}
 use Rattle.pc_state.proofs.PartEvents.{log-below}
 
 -- an event that assigns nothing, where the link keeps of the other parts what it kept
-given-commit : (new : State) (h : List Event) (v : Event) (told : Bool) (kept kept' : ℕ → Commit)
+given-commit : (new : State) (h : List Event) (v : Event) (told : Bool) (outcomes : Outcomes) (kept kept' : ℕ → Commit)
     (p : ℕ) → is_held h p ≡ true → ((q : ℕ) → assigned_by v q ≡ None)
     → (told ≡ true → (q : ℕ) → (q ≡ p → ⊥) → kept' q ≡ kept q)
-    → given_to new (v ∷ h) told kept' ≡ given_to new h told kept
-given-commit new h v told kept kept' p held quiet others =
-    given_by-same new.setup.now new.logs.now h (v ∷ h) told kept kept' same-first
+    → given_to new (v ∷ h) told outcomes kept' ≡ given_to new h told outcomes kept
+given-commit new h v told outcomes kept kept' p held quiet others =
+    given_by-same new.setup.now new.logs.now h (v ∷ h) told outcomes kept kept' same-first
   where
     same-first : told ≡ true → (q : ℕ) → unwrap_or (first_assigned (v ∷ h) q) (kept' q)
         ≡ unwrap_or (first_assigned h q) (kept q)
@@ -58,11 +59,11 @@ commit_with-failed : (p : ℕ) (c : SizedCommit) (f : ClientFault) → (f ≡ cl
 commit_with-failed p c client.NoMemory lasts = absurd (lasts refl)
 commit_with-failed p c f lasts = refl
 
-module _ (state : State) (h : List Event) (told : Bool) (kept : ℕ → Commit) (room : ℕ)
-    (keeps : IsEngine (given_to state h told kept) kept state room h) (p : ℕ)
-    (none : commit_refusal (given_to state h told kept) h p ≡ None) where
+module _ (state : State) (h : List Event) (told : Bool) (outcomes : Outcomes) (kept : ℕ → Commit) (room : ℕ)
+    (keeps : IsEngine (given_to state h told outcomes kept) kept state room h) (p : ℕ)
+    (none : commit_refusal (given_to state h told outcomes kept) h p ≡ None) where
   abbrev given : Given
-  given = given_to state h told kept
+  given = given_to state h told outcomes kept
 
   may : MayCommit given h p
   may = may_commit given h p none
@@ -98,9 +99,9 @@ module _ (state : State) (h : List Event) (told : Bool) (kept : ℕ → Commit) 
           → Knows given (v ∷ h) new → h' ≡ v ∷ h → given_to new h' told' kept' ≡ given
       along v quiet others known after =
           ap (λ (b : Bool). given_to new h' b kept') same_told
-          ∙ ap (λ (k : List Event). given_to new k told kept') after
-          ∙ given-commit new h v told kept kept' p may.held quiet others
-          ∙ given-known state new h (v ∷ h) told kept known
+          ∙ ap (λ (k : List Event). given_to new k told outcomes kept') after
+          ∙ given-commit new h v told outcomes kept kept' p may.held quiet others
+          ∙ given-known state new h (v ∷ h) told outcomes kept known
 
       other-of : (q : ℕ) → (p == q) ≡ false → q ≡ p → ⊥
       other-of q apart e = true-not-false (p == q) (eq-eqb p q (sym e)) apart

@@ -12,6 +12,7 @@ use Rattle.pc_model.specs.Stored.{may_store}
 use Rattle.pc_laws.specs.Lists.{In}
 use Rattle.pc_laws.proofs.Lists.{true-not-false}
 use Rattle.pc_state.specs.declared.state.State.{State}
+use Rattle.pc_task.specs.Jobs.{Outcomes}
 use Rattle.pc_engine.specs.Effect.{is_full}
 use Rattle.pc_engine.specs.Engine.{IsEngine, first_assigned, given_by}
 use Rattle.pc_state.specs.State.{Knows}
@@ -19,9 +20,9 @@ use Rattle.pc_engine.proofs.EngineLemmas.{given_by-same, option_or-none, start-k
 
 -- an event that assigns nothing leaves what the run was given
 pub given_by-event : (setup : Setup) (logs : List (Option (List Record))) (h : List Event) (v : Event)
-    (told : Bool) (kept : ℕ → Commit) → ((q : ℕ) → assigned_by v q ≡ None)
-    → given_by setup logs (v ∷ h) told kept ≡ given_by setup logs h told kept
-given_by-event setup logs h v told kept quiet = given_by-same setup logs h (v ∷ h) told kept kept
+    (told : Bool) (outcomes : Outcomes) (kept : ℕ → Commit) → ((q : ℕ) → assigned_by v q ≡ None)
+    → given_by setup logs (v ∷ h) told outcomes kept ≡ given_by setup logs h told outcomes kept
+given_by-event setup logs h v told outcomes kept quiet = given_by-same setup logs h (v ∷ h) told outcomes kept kept
     (λ is q. rw (quiet q, option_or-none (first_assigned h q)) refl)
 
 -- an event that stores nothing and ends nothing
@@ -60,21 +61,21 @@ room-limit h more room = elim (cases_lt 4000000 (length h + length (open_jobs h)
 
 -- ---- no event yet
 
-module _ (setup : Setup) (logs : List (Option (List Record))) (told : Bool) (kept : ℕ → Commit)
+module _ (setup : Setup) (logs : List (Option (List Record))) (told : Bool) (outcomes : Outcomes) (kept : ℕ → Commit)
     (state : State) (starts : (given : Given) → given.setup ≡ setup → given.logs ≡ logs
     → Knows given [] state) where
-  known : Knows (given_by setup logs [] told kept) [] state
-  known = starts (given_by setup logs [] told kept) refl refl
+  known : Knows (given_by setup logs [] told outcomes kept) [] state
+  known = starts (given_by setup logs [] told outcomes kept) refl refl
 
-  pub start-given : given_by state.setup.now state.logs.now [] told kept
-      ≡ given_by setup logs [] told kept
+  pub start-given : given_by state.setup.now state.logs.now [] told outcomes kept
+      ≡ given_by setup logs [] told outcomes kept
   start-given = rw (← known.setup, ← known.logs) refl
 
   pub IsEngine-start : (room : ℕ)
-      → IsEngine (given_by state.setup.now state.logs.now [] told kept) kept state room []
+      → IsEngine (given_by state.setup.now state.logs.now [] told outcomes kept) kept state room []
   IsEngine-start room = rw start-given (record {
     knows = known;
-    stored = λ told_is p below. inl (start-kept setup logs p told kept told_is below);
+    stored = λ told_is p below. inl (start-kept setup logs p told outcomes kept told_is below);
     runs = refl;
     flows = refl;
     room = omega arith;

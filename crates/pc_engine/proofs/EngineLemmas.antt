@@ -21,6 +21,7 @@ use Rattle.pc_laws.specs.Lists.{In}
 use Rattle.pc_laws.proofs.Lists.{or-right, true-not-false}
 use Rattle.pc_laws.proofs.PositionLaw.{held_apart}
 use Rattle.std.proofs.lemmas.Slice.Eq.{bytes_eq-Decides}
+use Rattle.pc_task.specs.Jobs.{Outcomes}
 use Rattle.pc_engine.specs.declared.fault.EngineFault.{EngineFault}
 use Rattle.pc_engine.specs.declared.fault.EngineFault.TheVariants.{NoMemory, Client, BadMap, UnknownPart, AlreadyHeld, NotHeld, JournalFull}
 use Rattle.pc_model.specs.declared.choices.BadMapRule.{BadMapRule}
@@ -63,18 +64,18 @@ find-start f part a (suc n) p from to = elim (cases_Bool (a == p)) [
       rw test (find-start f part (a + 1) n p (omega (arith, other)) (omega arith))
 ]
 
-pub start_of-given_by : (setup : Setup) (logs : List (Option (List Record))) (p : ℕ) (h : List Event) (kept : ℕ → Commit) → p < length logs
-    → start_of (given_by setup logs h true kept) p ≡ unwrap_or (first_assigned h p) (kept p)
-start_of-given_by setup logs p h kept below =
+pub start_of-given_by : (setup : Setup) (logs : List (Option (List Record))) (p : ℕ) (h : List Event) (outcomes : Outcomes) (kept : ℕ → Commit) → p < length logs
+    → start_of (given_by setup logs h true outcomes kept) p ≡ unwrap_or (first_assigned h p) (kept p)
+start_of-given_by setup logs p h outcomes kept below =
     ap (λ (o : Option Start). option_map_or
     (λ s. record { position = s.position; map = s.map }) o no_commit)
     (find-start (λ q. start_at (λ u. unwrap_or (first_assigned h u) (kept u)) q) (λ q. refl) 0 (length logs) p
     (omega arith) (omega arith))
 
-pub start-kept : (setup : Setup) (logs : List (Option (List Record))) (p : ℕ) (told : Bool) (kept : ℕ → Commit) → told ≡ true → p < length logs →
-    kept p ≡ start_of (given_by setup logs [] told kept) p
-start-kept setup logs p true kept is below = sym (start_of-given_by setup logs p [] kept below)
-start-kept setup logs p false kept is below = cc
+pub start-kept : (setup : Setup) (logs : List (Option (List Record))) (p : ℕ) (told : Bool) (outcomes : Outcomes) (kept : ℕ → Commit) → told ≡ true → p < length logs →
+    kept p ≡ start_of (given_by setup logs [] told outcomes kept) p
+start-kept setup logs p true outcomes kept is below = sym (start_of-given_by setup logs p [] outcomes kept below)
+start-kept setup logs p false outcomes kept is below = cc
 
 -- a start that each part keeps is the start
 starts_by-same : (n : ℕ) (h k : List Event) (kept kept' : ℕ → Commit)
@@ -86,14 +87,19 @@ starts_by-same n h k kept kept' same =
     (range_with_len 0 n)
 
 pub given_by-same : (setup : Setup) (logs : List (Option (List Record))) (h k : List Event) (told : Bool)
-    (kept kept' : ℕ → Commit)
+    (outcomes : Outcomes) (kept kept' : ℕ → Commit)
     → (told ≡ true → (q : ℕ) → unwrap_or (first_assigned k q) (kept' q) ≡ unwrap_or
     (first_assigned h q) (kept q))
-    → given_by setup logs k told kept' ≡ given_by setup logs h told kept
-given_by-same setup logs h k false kept kept' same = refl
-given_by-same setup logs h k true kept kept' same =
-    ap (λ (ss : List Start). record
-    { setup = setup; logs = logs; start = ss; is_told = true })
+    → given_by setup logs k told outcomes kept' ≡ given_by setup logs h told outcomes kept
+given_by-same setup logs h k false outcomes kept kept' same = refl
+given_by-same setup logs h k true outcomes kept kept' same =
+    ap (λ (ss : List Start). record {
+      setup = setup;
+      logs = logs;
+      start = ss;
+      is_told = true;
+      outcome = outcomes setup.settings.rules;
+    })
     (starts_by-same (length logs) h k kept kept' (same refl))
 
 -- ---- a part that is held was assigned
@@ -331,14 +337,14 @@ assign-misread r f given h h' p told b n n' stored rule was none gives same_rule
 )
 
 -- the effect of an assignment that nothing refuses
-pub assign-does : (setup : Setup) (logs : List (Option (List Record))) (h : List Event) (told : Bool) (kept : ℕ → Commit)
+pub assign-does : (setup : Setup) (logs : List (Option (List Record))) (h : List Event) (told : Bool) (outcomes : Outcomes) (kept : ℕ → Commit)
     (p epoch : ℕ) (stored : Commit) (h' : List Event)
-    → assign_refusal (given_by setup logs h told kept) h p ≡ None → map_refusal setup.settings.bad_map stored
+    → assign_refusal (given_by setup logs h told outcomes kept) h p ≡ None → map_refusal setup.settings.bad_map stored
     ≡ None → epoch ≡ epoch_of h p
     → h' ≡ Assign p (epoch + 1) stored.position stored.map ∷ h
     → Does {A = Unit {0}} (Ok tt)
-    (assign_step (given_by setup logs h told kept) h p (Ok stored)) h h'
-assign-does setup logs h told kept p epoch stored h' none reads is after =
+    (assign_step (given_by setup logs h told outcomes kept) h p (Ok stored)) h h'
+assign-does setup logs h told outcomes kept p epoch stored h' none reads is after =
     rw (none, reads) (
       refl,
       after ∙ ap (λ (e : ℕ). Assign p (e + 1) stored.position stored.map ∷ h) is,
@@ -427,11 +433,11 @@ may_keep-failed b b' p c (client.OtherReply asked got) gives = absurd gives
 
 -- a commit by a history that is this one
 sized-along : (setup : Setup) (logs : List (Option (List Record))) (h k : List Event) (told : Bool)
-    (kept : ℕ → Commit) (p : ℕ) (sized : SizedCommit) → k ≡ h
-    → sized ≡ commit_of (given_by setup logs k told kept) k p
-    → sized ≡ commit_of (given_by setup logs h told kept) h p
-sized-along setup logs h k told kept p sized same is =
-    subst (λ (x : List Event). sized ≡ commit_of (given_by setup logs x told kept) x p) same is
+    (outcomes : Outcomes) (kept : ℕ → Commit) (p : ℕ) (sized : SizedCommit) → k ≡ h
+    → sized ≡ commit_of (given_by setup logs k told outcomes kept) k p
+    → sized ≡ commit_of (given_by setup logs h told outcomes kept) h p
+sized-along setup logs h k told outcomes kept p sized same is =
+    subst (λ (x : List Event). sized ≡ commit_of (given_by setup logs x told outcomes kept) x p) same is
 
 -- a map within the limit of a setup is within that of a message
 pub small-map : (setup : Setup) (n : ℕ) → n ≤ setup.settings.map_limit → n < 2 ^ 15

@@ -22,6 +22,7 @@ use Rattle.pc_laws.proofs.Rising.{Rises}
 use Rattle.pc_laws.proofs.Blocked.{Rises-drop}
 use Rattle.pc_laws.proofs.HighLaw.{blocked_has_high}
 use Rattle.pc_laws.proofs.PositionLaw.{from_begin-rises}
+use Rattle.pc_task.specs.Jobs.{Outcomes}
 use Rattle.pc_engine.specs.declared.fault.EngineFault.{EngineFault}
 use Rattle.pc_engine.specs.declared.fault.EngineFault.TheVariants.{JournalFull, Pressed}
 use Rattle.pc_state.specs.declared.state.State.{State}
@@ -352,17 +353,17 @@ module _ (given : Given) (h : List Event) (p max first : ℕ)
             ∙ ap (λ (o : ℕ). Poll p (length (next_records given h p max)) o ∷ h) end,
       )
 
-module _ (state : State) (h : List Event) (told : Bool) (kept : ℕ → Commit) (room : ℕ)
-    (keeps : IsEngine (given_to state h told kept) kept state room h) (p max first : ℕ)
-    (none : poll_refusal (given_to state h told kept) h p ≡ None) (some : 0 < max)
+module _ (state : State) (h : List Event) (told : Bool) (outcomes : Outcomes) (kept : ℕ → Commit) (room : ℕ)
+    (keeps : IsEngine (given_to state h told outcomes kept) kept state room h) (p max first : ℕ)
+    (none : poll_refusal (given_to state h told outcomes kept) h p ≡ None) (some : 0 < max)
     (left : Some first
-    ≡ option_map (λ r. r.offset) (slice_get (unpolled_records (given_to state h told kept) h p) 0))
-    (free : may_poll (given_to state h told kept) h p first ≡ true)
+    ≡ option_map (λ r. r.offset) (slice_get (unpolled_records (given_to state h told outcomes kept) h p) 0))
+    (free : may_poll (given_to state h told outcomes kept) h p first ≡ true)
     (records : List RecordRef)
     (next : map plain records
-    ≡ (next_records (given_to state h told kept) h p max)) where
+    ≡ (next_records (given_to state h told outcomes kept) h p max)) where
   abbrev given : Given
-  given = given_to state h told kept
+  given = given_to state h told outcomes kept
 
   count-is : length records ≡ length (next_records given h p max)
   count-is = next-count given h p keeps.knows.legal max records next
@@ -427,8 +428,8 @@ module _ (state : State) (h : List Event) (told : Bool) (kept : ℕ → Commit) 
     known = knows (last_offset (next_records given h p max))
         (may-come (not-full u (is_full h 1) room_left))
 
-    pub polled-keeps : IsEngine (given_to new h' told kept) kept new room' h'
-    polled-keeps = keeps-event state new h h' told kept room room'
+    pub polled-keeps : IsEngine (given_to new h' told outcomes kept) kept new room' h'
+    polled-keeps = keeps-event state new h h' told outcomes kept room room'
         (Poll p (length records) (last_offset (next_records given h p max))) keeps (λ q. refl) known
         (λ q. refl) refl refl (omega (arith, count, enough, less)) event-is
 
@@ -437,7 +438,7 @@ module _ (state : State) (h : List Event) (told : Bool) (kept : ℕ → Commit) 
     polled-does = poll-does given h p max first none left free m last h1 h' u room_left
         (many ∙ count-is) end same after
 
-    pub polled-given : given_to new h' told kept ≡ given
-    polled-given = given-event state new h h' told kept
+    pub polled-given : given_to new h' told outcomes kept ≡ given
+    polled-given = given-event state new h h' told outcomes kept
         (Poll p (length records) (last_offset (next_records given h p max))) (λ q. refl) known
         event-is

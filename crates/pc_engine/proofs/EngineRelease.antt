@@ -7,6 +7,7 @@ use Rattle.pc_model.specs.declared.event.Event.TheVariants.{Crash, Lost}
 use Rattle.pc_model.specs.Given.{Given, has_log}
 use Rattle.pc_model.specs.Jobs.{has_ended, open_jobs}
 use Rattle.pc_model.specs.Epochs.{epoch_of, is_held}
+use Rattle.pc_task.specs.Jobs.{Outcomes}
 use Rattle.pc_engine.specs.declared.fault.EngineFault.{EngineFault}
 use Rattle.pc_engine.specs.declared.fault.EngineFault.TheVariants.{JournalFull, NotHeld, UnknownPart}
 use Rattle.pc_state.specs.declared.state.State.{State}
@@ -63,10 +64,10 @@ may-release given h p more u ok = elim (cases_Bool (has_ended h)) [
 
 -- ---- the events
 
-module _ (state : State) (h : List Event) (told : Bool) (kept : ℕ → Commit) (room : ℕ)
-    (keeps : IsEngine (given_to state h told kept) kept state room h) where
+module _ (state : State) (h : List Event) (told : Bool) (outcomes : Outcomes) (kept : ℕ → Commit) (room : ℕ)
+    (keeps : IsEngine (given_to state h told outcomes kept) kept state room h) where
   abbrev given : Given
-  given = given_to state h told kept
+  given = given_to state h told outcomes kept
 
   may-lose : (p : ℕ) → is_held h p ≡ true → is_full h 1 ≡ false
       → MayCome given (Lost p (epoch_of h p)) h
@@ -90,14 +91,14 @@ module _ (state : State) (h : List Event) (told : Bool) (kept : ℕ → Commit) 
     lost-events = after ∙ ap (λ (k : List Event). Lost p epoch ∷ k) same
         ∙ ap (λ (e : ℕ). Lost p e ∷ h) (is (may-release given h p 1 u ok).0)
 
-    pub lost-given : given_to new h' told kept ≡ given
-    lost-given = given-event state new h h' told kept (Lost p (epoch_of h p)) (λ q. refl)
+    pub lost-given : given_to new h' told outcomes kept ≡ given
+    lost-given = given-event state new h h' told outcomes kept (Lost p (epoch_of h p)) (λ q. refl)
         knows-loss lost-events
 
     pub lost-keeps : (room1 room' n : ℕ) → n ≡ length (open_jobs h) → n + 1 ≤ room1
-        → room' + 1 ≡ room1 → IsEngine (given_to new h' told kept) kept new room' h'
+        → room' + 1 ≡ room1 → IsEngine (given_to new h' told outcomes kept) kept new room' h'
     lost-keeps room1 room' n count enough less =
-        keeps-event state new h h' told kept room room' (Lost p (epoch_of h p)) keeps (λ q. refl)
+        keeps-event state new h h' told outcomes kept room room' (Lost p (epoch_of h p)) keeps (λ q. refl)
         knows-loss (λ q. refl) refl refl (omega (arith, count, enough, less)) lost-events
 
     pub lost-does : Does (Ok tt) (lose_step given h p) h h'
@@ -118,9 +119,9 @@ module _ (state : State) (h : List Event) (told : Bool) (kept : ℕ → Commit) 
       (cond (is_full h 1) (Err JournalFull) (Ok tt))
       → (MayCome given Crash h → Knows given (Crash ∷ h) new)
       → h1 ≡ h → h' ≡ Crash ∷ h1 → n ≡ length (open_jobs h) → n + 1 ≤ room1
-      → room' + 1 ≡ room1 → IsEngine (given_to new h' told kept) kept new room' h'
+      → room' + 1 ≡ room1 → IsEngine (given_to new h' told outcomes kept) kept new room' h'
   crashed-keeps new h1 h' room1 room' n u room_left knows same after count enough less =
-      keeps-event state new h h' told kept room room' Crash keeps (λ q. refl)
+      keeps-event state new h h' told outcomes kept room room' Crash keeps (λ q. refl)
       (knows (may-crash (not-full u (is_full h 1) room_left))) (λ q. refl) refl (sym keeps.flows)
       (omega (arith, count, enough, less))
       (after ∙ ap (λ (k : List Event). Crash ∷ k) same)

@@ -16,13 +16,14 @@ use Rattle.pc_model.specs.Given.{Given, records_of}
 use Rattle.pc_model.specs.Jobs.{Job, is_outstanding, is_settled, job_of, jobs_of, open_jobs}
 use Rattle.pc_model.specs.Lawful.{IsLegal}
 use Rattle.pc_model.specs.Epochs.{epoch_of, is_current_ticket, is_held}
-use Rattle.pc_model.specs.Outcomes.{outcome_of, ticket_attempt, ticket_outcome}
+use Rattle.pc_model.specs.Outcomes.{ticket_attempt, ticket_outcome}
+use Rattle.pc_model.specs.declared.outcome.Rules.{Rules}
 use Rattle.pc_model.specs.Retry.{now_of, ready_after}
 use Rattle.pc_laws.specs.Lists.{In}
 use Rattle.pc_laws.proofs.JobsLaw.{job-of}
 use Rattle.pc_laws.proofs.Lists.{and-left, and-right}
 use Rattle.pc_laws.proofs.Passing.{option_cases}
-use Rattle.pc_task.specs.Jobs.{PlainJob, due_outcome}
+use Rattle.pc_task.specs.Jobs.{Outcomes, PlainJob, due_outcome}
 use Rattle.pc_state.specs.declared.jobs.OpenJob.{OpenJob}
 use Rattle.pc_state.specs.declared.state.State.{State}
 use Rattle.pc_state.specs.Calls.{IsExpected}
@@ -88,13 +89,14 @@ module _ (given : Given) (h : List Event) (job : PlainJob)
   ticket-current = rw out.1
       (ap (λ (k : OpenJob). is_held h k.part && (k.epoch == epoch_of h k.part)) out.2)
 
-  -- its outcome is the one that its rules give
-  ticket-due : ticket_outcome given h job.ticket ≡ Some (due_outcome job)
+  -- its outcome is the one that the function gives
+  ticket-due : ticket_outcome given h job.ticket
+      ≡ Some (given.outcome job.part job.entry job.attempt)
   unfolding ticket_outcome
   ticket-due = rw out.1 (ap (λ (k : OpenJob). option_map
-      (λ r. outcome_of given.setup.settings.rules k.part r k.attempt)
+      (λ r. given.outcome k.part r k.attempt)
       (find (λ r. r.offset == k.offset) (records_of given k.part))) out.2
-      ∙ rw (expected.entry, expected.rules) refl)
+      ∙ rw expected.entry refl)
 
 -- its attempt, which is at least the first where it is current
 module _ (given : Given) (h : List Event) (job : PlainJob) (expected : IsExpected given h job) where
@@ -119,20 +121,31 @@ attempt-some given h legal job expected =
     let some = attempts-some given h legal j.0 (job-of h job.ticket j.0 j.1).0 in
     let same = ap (λ (k : OpenJob). k.attempt) j.2 in omega (arith, some, same)
 
+-- the outcome by one function is that by another with the same outcomes
+pub due-same : (mine theirs : Outcomes) (job : PlainJob) (outcome : Outcome) → theirs ≡ mine
+    → outcome ≡ due_outcome theirs job → outcome ≡ due_outcome mine job
+due-same mine theirs job outcome same due = due
+    ∙ ap (λ (f : Outcomes). due_outcome f job) same
+
 -- ---- its event
 
-module _ (state new : State) (h h' : List Event) (told : Bool) (kept : ℕ → Commit) (room room' : ℕ)
-    (keeps : IsEngine (given_to state h told kept) kept state room h) (job : PlainJob)
-    (expected : IsExpected (given_to state h told kept) h job) (less : room' + 1 ≡ room) where
+module _ (state new : State) (h h' : List Event) (told : Bool) (outcomes : Outcomes) (kept : ℕ → Commit) (room room' : ℕ)
+    (keeps : IsEngine (given_to state h told outcomes kept) kept state room h) (job : PlainJob)
+    (expected : IsExpected (given_to state h told outcomes kept) h job) (less : room' + 1 ≡ room) where
   abbrev given : Given
-  given = given_to state h told kept
+  given = given_to state h told outcomes kept
 
   outstanding : is_outstanding h job.ticket ≡ true
   outstanding = (out given h job expected).3
 
+  due-of : ticket_outcome given h job.ticket ≡ Some (due_outcome outcomes job)
+  due-of = ticket-due given h job expected
+      ∙ ap (λ (rules : Rules). Some (outcomes rules job.part job.entry job.attempt))
+      (sym expected.rules)
+
   -- a job that is current
   module _ (current : (is_held h job.part && (job.epoch == epoch_of h job.part)) ≡ true)
-      (answer : List ℕ) (outcome : Outcome) (due : outcome ≡ due_outcome job)
+      (answer : List ℕ) (outcome : Outcome) (due : outcome ≡ due_outcome outcomes job)
       (good : outcome ≡ Good answer)
       (does : (given : Given) (h : List Event) (k : OpenJob) (answer : List ℕ)
       → Knows given h state → option_map kept_job (open_job h job.ticket) ≡ Some k
@@ -149,7 +162,7 @@ module _ (state new : State) (h h' : List Event) (told : Bool) (kept : ℕ → C
         record {
           outstanding = outstanding;
           current = ticket-current given h job expected ∙ current;
-          outcome = ticket-due given h job expected
+          outcome = due-of
               ∙ ap (λ (x : Outcome). Some x) (sym due ∙ good);
         },
         keeps.runs,
@@ -163,18 +176,18 @@ module _ (state new : State) (h h' : List Event) (told : Bool) (kept : ℕ → C
         (eqb-true job.epoch (epoch_of h job.part) (and-right (is_held h job.part) _ current))
         (and-left (is_held h job.part) _ current) may-succeed
 
-    pub settled-given : given_to new h' told kept ≡ given
-    settled-given = given-event state new h h' told kept (Success job.ticket answer) (λ q. refl)
+    pub settled-given : given_to new h' told outcomes kept ≡ given
+    settled-given = given-event state new h h' told outcomes kept (Success job.ticket answer) (λ q. refl)
         knows-settled after
 
-    pub settled-keeps : IsEngine (given_to new h' told kept) kept new room' h'
-    settled-keeps = keeps-event state new h h' told kept room room' (Success job.ticket answer)
+    pub settled-keeps : IsEngine (given_to new h' told outcomes kept) kept new room' h'
+    settled-keeps = keeps-event state new h h' told outcomes kept room room' (Success job.ticket answer)
         keeps (λ q. refl) knows-settled (λ q. refl) refl refl
         (omega (arith, fewer, less, keeps.room)) after
 
   -- a failure of a job that is current
   module _ (current : (is_held h job.part && (job.epoch == epoch_of h job.part)) ≡ true)
-      (code ready : ℕ) (outcome : Outcome) (due : outcome ≡ due_outcome job)
+      (code ready : ℕ) (outcome : Outcome) (due : outcome ≡ due_outcome outcomes job)
       (bad : outcome ≡ Bad code) (at : ready ≡ ready_after state.setup.now.settings.delays job.attempt state.clock)
       (does : (given : Given) (h : List Event) (k : OpenJob) (code : ℕ)
       → Knows given h state → option_map kept_job (open_job h job.ticket) ≡ Some k
@@ -195,7 +208,7 @@ module _ (state new : State) (h h' : List Event) (told : Bool) (kept : ℕ → C
         record {
           outstanding = outstanding;
           current = ticket-current given h job expected ∙ current;
-          outcome = ticket-due given h job expected
+          outcome = due-of
               ∙ ap (λ (x : Outcome). Some x) (sym due ∙ bad);
           ready_is = failed-ready
               ∙ ap (λ (n : ℕ). ready_after given.setup.settings.delays n (now_of h))
@@ -212,12 +225,12 @@ module _ (state new : State) (h h' : List Event) (told : Bool) (kept : ℕ → C
         (eqb-true job.epoch (epoch_of h job.part) (and-right (is_held h job.part) _ current))
         (and-left (is_held h job.part) _ current) may-fail
 
-    pub failed-given : given_to new h' told kept ≡ given
-    failed-given = given-event state new h h' told kept (Failure job.ticket code ready) (λ q. refl)
+    pub failed-given : given_to new h' told outcomes kept ≡ given
+    failed-given = given-event state new h h' told outcomes kept (Failure job.ticket code ready) (λ q. refl)
         knows-failed after
 
-    pub failed-keeps : IsEngine (given_to new h' told kept) kept new room' h'
-    failed-keeps = keeps-event state new h h' told kept room room' (Failure job.ticket code ready)
+    pub failed-keeps : IsEngine (given_to new h' told outcomes kept) kept new room' h'
+    failed-keeps = keeps-event state new h h' told outcomes kept room room' (Failure job.ticket code ready)
         keeps (λ q. refl) knows-failed (λ q. refl) refl refl
         (omega (arith, fewer-failed, less, keeps.room)) after
 
@@ -251,12 +264,12 @@ module _ (state new : State) (h h' : List Event) (told : Bool) (kept : ℕ → C
     knows-stale : Knows given (Stale job.ticket ∷ h) new
     knows-stale = does given h keeps.knows may-forget
 
-    pub stale-given : given_to new h' told kept ≡ given
-    stale-given = given-event state new h h' told kept (Stale job.ticket) (λ q. refl) knows-stale
+    pub stale-given : given_to new h' told outcomes kept ≡ given
+    stale-given = given-event state new h h' told outcomes kept (Stale job.ticket) (λ q. refl) knows-stale
         after
 
-    pub stale-keeps : IsEngine (given_to new h' told kept) kept new room' h'
-    stale-keeps = keeps-event state new h h' told kept room room' (Stale job.ticket) keeps
+    pub stale-keeps : IsEngine (given_to new h' told outcomes kept) kept new room' h'
+    stale-keeps = keeps-event state new h h' told outcomes kept room room' (Stale job.ticket) keeps
         (λ q. refl) knows-stale (λ q. refl) refl refl
         (omega (arith, fewer-stale, less, keeps.room)) after
 

@@ -10,7 +10,7 @@ use Rattle.pc_model.specs.Epochs.{epoch_of}
 use Rattle.pc_model.specs.Next.{next_record}
 use Rattle.pc_model.specs.Retry.{failures_of}
 use Rattle.pc_model.proofs.JobLaws.{open_jobs-dispatch}
-use Rattle.pc_task.specs.Jobs.{PlainJob}
+use Rattle.pc_task.specs.Jobs.{Outcomes, PlainJob}
 use Rattle.pc_engine.specs.declared.fault.EngineFault.{EngineFault}
 use Rattle.pc_engine.specs.declared.fault.EngineFault.TheVariants.{JournalFull}
 use Rattle.pc_state.specs.declared.state.State.{State}
@@ -28,10 +28,10 @@ pub not-full : (u : Unit {0}) (full : Bool) → ◌≡◌ {A = Result (Unit {0})
 not-full u true is = cc
 not-full u false is = refl
 
-module _ (state : State) (h : List Event) (told : Bool) (kept : ℕ → Commit) (room : ℕ)
-    (keeps : IsEngine (given_to state h told kept) kept state room h) where
+module _ (state : State) (h : List Event) (told : Bool) (outcomes : Outcomes) (kept : ℕ → Commit) (room : ℕ)
+    (keeps : IsEngine (given_to state h told outcomes kept) kept state room h) where
   abbrev given : Given
-  given = given_to state h told kept
+  given = given_to state h told outcomes kept
 
   abbrev event : ℕ → ℕ → ℕ → Event
   event worker p o = Dispatch (dispatch_count h + 1) worker p o (epoch_of h p)
@@ -72,10 +72,10 @@ module _ (state : State) (h : List Event) (told : Bool) (kept : ℕ → Commit) 
       → (MayCome given (event worker p o) h → Knows given (event worker p o ∷ h) new)
       → h1 ≡ h → h' ≡ Dispatch job.ticket worker p o job.epoch job.attempt ∷ h1
       → n ≡ length (open_jobs h) → n + 2 ≤ room1 → room' + 1 ≡ room1
-      → IsEngine (given_to new h' told kept) kept new room' h'
+      → IsEngine (given_to new h' told outcomes kept) kept new room' h'
   taken-keeps new h1 h' room1 room' worker p o n u job small next room_left job_is knows same after
       count enough less =
-      keeps-event state new h h' told kept room room' (event worker p o) keeps (λ q. refl)
+      keeps-event state new h h' told outcomes kept room room' (event worker p o) keeps (λ q. refl)
       (knows (may-take worker p o small (sym next) (not-full u (is_full h 2) room_left)))
       (λ q. refl) refl refl
       (let more = one-more worker p o in omega (arith, more, count, enough, less))

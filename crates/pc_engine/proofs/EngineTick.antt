@@ -8,6 +8,7 @@ use Rattle.pc_model.specs.Jobs.{open_jobs}
 use Rattle.pc_model.specs.Retry.{now_of}
 use Rattle.pc_state.specs.declared.state.State.{State}
 use Rattle.pc_state.specs.State.{Knows, MayCome}
+use Rattle.pc_task.specs.Jobs.{Outcomes}
 use Rattle.pc_engine.specs.declared.fault.EngineFault.{EngineFault}
 use Rattle.pc_engine.specs.declared.fault.EngineFault.TheVariants.{JournalFull}
 use Rattle.pc_engine.specs.Effect.{is_full}
@@ -16,11 +17,11 @@ use Rattle.pc_engine.proofs.EngineEvents.{room-limit}
 use Rattle.pc_engine.proofs.EngineStep.{given_to, keeps-event}
 use Rattle.pc_engine.proofs.EngineTake.{not-full}
 
-module _ (state : State) (h : List Event) (told : Bool) (kept : ℕ → Commit) (room : ℕ)
-    (keeps : IsEngine (given_to state h told kept) kept state room h) (n : ℕ)
+module _ (state : State) (h : List Event) (told : Bool) (outcomes : Outcomes) (kept : ℕ → Commit) (room : ℕ)
+    (keeps : IsEngine (given_to state h told outcomes kept) kept state room h) (n : ℕ)
     (later : state.clock < n) where
   abbrev given : Given
-  given = given_to state h told kept
+  given = given_to state h told outcomes kept
 
   after-now : now_of h < n
   after-now = let clock = keeps.knows.clock in omega (arith, later, clock)
@@ -43,7 +44,7 @@ module _ (state : State) (h : List Event) (told : Bool) (kept : ℕ → Commit) 
     events = after ∙ ap (λ (k : List Event). Tick n ∷ k) same
 
     pub ticked-keeps : (room1 room' m : ℕ) → m ≡ length (open_jobs h) → m + 1 ≤ room1
-        → room' + 1 ≡ room1 → IsEngine (given_to new h' told kept) kept new room' h'
+        → room' + 1 ≡ room1 → IsEngine (given_to new h' told outcomes kept) kept new room' h'
     ticked-keeps room1 room' m count enough less =
-        keeps-event state new h h' told kept room room' (Tick n) keeps (λ q. refl) known (λ q. refl)
+        keeps-event state new h h' told outcomes kept room room' (Tick n) keeps (λ q. refl) known (λ q. refl)
         refl refl (omega (arith, count, enough, less)) events

@@ -20,6 +20,7 @@ use Rattle.pc_model.specs.Retry.{failures_of, now_of, ready_after}
 use Rattle.pc_model.specs.Next.{next_record}
 use Rattle.pc_model.specs.History.{History}
 use Rattle.pc_task.specs.declared.job.Job.{Job}
+use Rattle.pc_task.specs.declared.task.Task.{Ghosts}
 use Rattle.pc_task.specs.Jobs.{PlainJob, plain_job}
 use Rattle.pc_model.specs.Broker.{Broker, stored_for}
 use Rattle.pc_offset_client.specs.declared.fault.ClientFault.TheVariants as client
@@ -267,12 +268,13 @@ revoke_step given h p outcome = revoke_after given h p outcome (revoke_refusal g
 -- ---- settle
 
 -- what a settled result is, and the event that it adds
-pub record SettledStep : Type 0 where
-  pub answer : Settled
+pub record SettledStep (T : Type 0) (task : Ghosts T) : Type 0 where
+  pub answer : Settled T task
   pub events : List Event
 
 -- a result of a current job, by its outcome
-abbrev pub settle_current : Given → List Event → PlainJob → Outcome → SettledStep
+abbrev pub settle_current : {T : Type 0} {task : Ghosts T} → Given → List Event → PlainJob → Outcome
+    → SettledStep T task
 settle_current given h job (Good answer) =
     record { answer = Succeeded; events = Success job.ticket answer ∷ [] }
 settle_current given h job (Bad code) =
@@ -280,14 +282,15 @@ settle_current given h job (Bad code) =
     record { answer = Failed ready; events = Failure job.ticket code ready ∷ [] }
 
 -- a result that is expected
-abbrev pub settle_step : Given → List Event → PlainJob → Outcome → SettledStep
+abbrev pub settle_step : {T : Type 0} {task : Ghosts T} → Given → List Event → PlainJob → Outcome
+    → SettledStep T task
 settle_step given h job outcome =
     if is_held h job.part && (job.epoch == epoch_of h job.part)
     then settle_current given h job outcome
     else record { answer = Stale; events = StaleResult job.ticket ∷ [] }
 
 -- a result that was settled by the step
-abbrev pub Settles : Settled → SettledStep → List Event → List Event → Type 0
+abbrev pub Settles : {T : Type 0} {task : Ghosts T} → Settled T task → SettledStep T task → List Event → List Event → Type 0
 Settles result step before after = (result ≡ step.answer) × (after ≡ step.events ++ before)
 
 -- for how many events there is room beyond those kept for the jobs that are out
@@ -295,7 +298,7 @@ abbrev pub spare : History → ℕ
 spare journal = journal.room - length (open_jobs journal.events)
 
 -- what a take answered, without where its record and its rules lie in memory
-abbrev pub taken : Result (Option Job) EngineFault → Result (Option PlainJob) EngineFault
+abbrev pub taken : {T : Type 0} → Result (Option (Job T)) EngineFault → Result (Option PlainJob) EngineFault
 taken (Ok job) = Ok (option_map plain_job job)
 taken (Err fault) = Err fault
 

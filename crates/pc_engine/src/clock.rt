@@ -6,12 +6,14 @@ ghost use Rattle.pc_model.specs.Retry.{now_of};
 use crate::engine::Engine;
 use crate::fault::EngineFault;
 use pc_model::Event;
+use pc_task::Task;
 use pc_world::Link;
 
-impl<'a, L: Link> Engine<'a, L> {
+impl<'a, L: Link, T: Task> Engine<'a, L, T> {
     ghost use Rattle.std.specs.Prelude.{◌≡◌, ◌≤◌, Err};
     ghost use Rattle.pc_engine.specs.declared.fault.EngineFault.TheVariants.{NoMemory};
     ghost use Rattle.pc_engine.specs.Effect.{Does, spare, tick_step};
+    ghost use Rattle.pc_engine.specs.Engine.{Keeps};
 
     /// The number of the last tick, or 0.
     pub fn now(&self) -> u64
@@ -30,8 +32,7 @@ impl<'a, L: Link> Engine<'a, L> {
         ensures effect { Does result (tick_step self.old.journal.events now)
             self.old.journal.events self.new.journal.events }
         ensures memory { 1 ≤ spare self.old.journal → result ≡ Err NoMemory → ⊥ }
-        ensures given { self.new.given ≡ self.old.given }
-        ensures link { self.new.link ≡ self.old.link }
+        ensures keeps { Keeps T.outcome self.old self.new }
     {
         if now <= self.state.clock {
             return Ok(false);

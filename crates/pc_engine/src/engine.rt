@@ -17,7 +17,7 @@ use pc_model::{Commit as StoredCommit, Event, Journal, Outcome, Setup, SizedComm
 use pc_offset_client::{Client, ClientFault};
 use pc_partition::PartitionState;
 use pc_state::{PartState, State, ready_after};
-use pc_task::{Finished, Job};
+use pc_task::{Finished, Job, RuleTask, Task};
 use pc_world::Link;
 use std::alloc::{AllocError, Global};
 use std::marker::Model;
@@ -31,35 +31,70 @@ pub struct Committed {
     pub size: u32,
 }
 
-/// The core over one link.
-pub struct Engine<'a, L: Link> {
+/// The core over one link, which has one function run on the records.
+pub struct Engine<'a, L: Link, T: Task = RuleTask> {
     pub(crate) alloc: Global,
+    pub(crate) task: &'a T,
     pub(crate) state: State<'a>,
     pub(crate) journal: Journal,
     pub(crate) client: Client<L>,
 }
 
-impl<'a, L: Link> Model for Engine<'a, L> {
+impl<'a, L: Link, T: Task> Model for Engine<'a, L, T> {
     ghost use Rattle.std.specs.Prelude.{length};
     ghost use Rattle.pc_offset_client.specs.Client.{kept_for};
-    ghost use Rattle.pc_engine.specs.Engine.{EngineView, IsEngine, given_by};
+    ghost use Rattle.pc_engine.specs.Engine.{EngineView, IsEngine, given_by, starts_of};
 
-    ghost Value = { EngineView L };
+    ghost Value = { EngineView L T };
 
     ghost view = { λ e. record {
-      given = given_by e.state.setup.now e.state.logs.now e.journal.events
-          (L.is_told e.client.link) (kept_for (L.store e.client.link));
+      setup = e.state.setup.now;
+      logs = e.state.logs.now;
+      start = starts_of e.journal.events (L.is_told e.client.link)
+          (kept_for (L.store e.client.link)) (length e.state.logs.now);
+      is_told = L.is_told e.client.link;
+      task = e.task.now;
       journal = e.journal;
       link = e.client.link;
     } };
 
     ghost invariant = { λ e. IsEngine
         (given_by e.state.setup.now e.state.logs.now e.journal.events (L.is_told e.client.link)
-        (kept_for (L.store e.client.link)))
+        (T.outcome e.task.now) (kept_for (L.store e.client.link)))
         (kept_for (L.store e.client.link)) e.state e.journal.room e.journal.events };
 }
 
-impl<'a, L: Link> Engine<'a, L> {
+impl<'a, L: Link> Engine<'a, L, RuleTask> {
+    ghost use Rattle.std.specs.Prelude.{◌≡◌, [], IfOk, IfErr};
+    ghost use Rattle.pc_model.specs.Lawful.{IsLegal};
+    ghost use Rattle.pc_model.specs.Outcomes.{outcome_of};
+    ghost use Rattle.pc_offset_client.specs.Client.{kept_for};
+    ghost use Rattle.pc_engine.specs.Engine.{given_by, given_of};
+
+    /// An engine over these logs, without an event, which has the function of the setup's rules run.
+    /// The error is want of memory and gives the link back.
+    pub fn start(
+        alloc: Global,
+        setup: &'a Setup,
+        logs: &'a BrokerLogs<'a>,
+        link: L,
+    ) -> Result<Engine<'a, L>, L>
+        ensures given { IfOk result
+            (λ e. given_of (λ _. outcome_of) e ≡ given_by setup.now logs.now [] (L.is_told link)
+            outcome_of (kept_for (L.store link))) }
+        ensures empty { IfOk result (λ e. e.journal.events ≡ []) }
+        ensures link { IfOk result (λ e. e.link ≡ link) }
+        ensures back { IfErr result (λ l. l ≡ link) }
+
+        // With an engine or without one, no event is a legal history of what it is given.
+        ensures legal { IsLegal (given_by setup.now logs.now [] (L.is_told link) outcome_of
+            (kept_for (L.store link))) [] }
+    {
+        Engine::with_task(alloc, setup, logs, &RuleTask, link)
+    }
+}
+
+impl<'a, L: Link, T: Task> Engine<'a, L, T> {
     ghost use Rattle.std.specs.Prelude.{◌≡◌, ◌≤◌, ◌<◌, ◌+◌, ◌^◌, ◌⊎◌, ◌↔◌, ◌&&◌, ◌==◌, IsTrue, ℕ, true, false, [], IfOk, IfErr, IsOk, OnOk, OnErr, Err, Ok, Some, None, Result, if◌then◌else◌, length};
     ghost use Rattle.pc_model.specs.declared.commit.Commit.{Commit};
     ghost use Rattle.pc_model.specs.Known.{commit_of};
@@ -79,32 +114,34 @@ impl<'a, L: Link> Engine<'a, L> {
     ghost use Rattle.pc_model.specs.Stored.{may_store};
     ghost use Rattle.pc_laws.specs.Lists.{In};
     ghost use Rattle.pc_engine.specs.Effect.{Does, IsFetched, IsStored, KeepsStore, StoresOnly, assign_refusal, assign_step, commit_refusal, commit_step, is_full, refused_by};
-    ghost use Rattle.pc_engine.specs.Engine.{given_by};
+    ghost use Rattle.pc_engine.specs.Engine.{Asks, Expects, Keeps, given_by, given_of};
     ghost use Rattle.pc_state.specs.State.{PartKeeps};
     ghost use Rattle.pc_model.specs.Jobs.{open_jobs};
     ghost use Rattle.pc_model.specs.Epochs.{epoch_of};
-    ghost use Rattle.pc_task.specs.Jobs.{finished_job};
+    ghost use Rattle.pc_task.specs.Results.{finished_job};
     ghost use Rattle.pc_engine.specs.declared.settled.Settled.TheVariants.{Closed, Stranger};
     ghost use Rattle.pc_state.specs.Calls.{IsExpected};
     ghost use Rattle.pc_engine.specs.Effect.{Settles, poll_refusal, poll_step, settle_step, spare, take_step, taken};
 
-    /// An engine over these logs, without an event. The error is want of memory and gives the link
-    /// back.
-    pub fn start(
+    /// An engine over these logs, without an event, which has this function run. The error is want of
+    /// memory and gives the link back.
+    pub fn with_task(
         alloc: Global,
         setup: &'a Setup,
         logs: &'a BrokerLogs<'a>,
+        task: &'a T,
         link: L,
-    ) -> Result<Engine<'a, L>, L>
+    ) -> Result<Engine<'a, L, T>, L>
         ensures given { IfOk result
-            (λ e. e.given ≡ given_by setup.now logs.now [] (L.is_told link)
-            (kept_for (L.store link))) }
+            (λ e. given_of T.outcome e ≡ given_by setup.now logs.now [] (L.is_told link)
+            (T.outcome task.now) (kept_for (L.store link))) }
+        ensures task { IfOk result (λ e. e.task ≡ task.now) }
         ensures empty { IfOk result (λ e. e.journal.events ≡ []) }
         ensures link { IfOk result (λ e. e.link ≡ link) }
         ensures back { IfErr result (λ l. l ≡ link) }
 
         // With an engine or without one, no event is a legal history of what it is given.
-        ensures legal { IsLegal (given_by setup.now logs.now [] (L.is_told link)
+        ensures legal { IsLegal (given_by setup.now logs.now [] (L.is_told link) (T.outcome task.now)
             (kept_for (L.store link))) [] }
     {
         let Ok(state) = State::new(alloc, setup, logs) else {
@@ -112,6 +149,7 @@ impl<'a, L: Link> Engine<'a, L> {
         };
         Ok(Engine {
             alloc,
+            task,
             state,
             journal: Journal::new(alloc),
             client: Client::new(alloc, link),
@@ -133,13 +171,14 @@ impl<'a, L: Link> Engine<'a, L> {
     pub fn into_parts(self) -> (Journal, L)
         ensures journal { result.0 ≡ self.entry.journal }
         ensures link { result.1 ≡ self.entry.link }
-        ensures told { self.entry.given.is_told ≡ L.is_told self.entry.link }
-        ensures legal { IsLegal self.entry.given self.entry.journal.events }
-        ensures stored { self.entry.given.is_told ≡ true → (p : ℕ) → has_log self.entry.given p ≡ true
-            → In (kept_for (L.store self.entry.link) p) (may_store self.entry.given self.entry.journal.events p) }
+        ensures told { self.entry.is_told ≡ L.is_told self.entry.link }
+        ensures legal { IsLegal (given_of T.outcome self.entry) self.entry.journal.events }
+        ensures stored { self.entry.is_told ≡ true → (p : ℕ) → has_log (given_of T.outcome self.entry) p ≡ true
+            → In (kept_for (L.store self.entry.link) p) (may_store (given_of T.outcome self.entry) self.entry.journal.events p) }
     {
         let Engine {
             alloc: _,
+            task: _,
             state: _,
             journal,
             client,
@@ -156,10 +195,10 @@ impl<'a, L: Link> Engine<'a, L> {
         ensures effect { (outcome : Result Commit ClientFault) × IsFetched
             (L.is_told self.old.link) (L.store self.old.link) (L.faults self.old.link)
             (L.faults self.new.link) part outcome × Does result
-            (assign_step self.old.given self.old.journal.events part outcome)
+            (assign_step (given_of T.outcome self.old) self.old.journal.events part outcome)
             self.old.journal.events self.new.journal.events }
         ensures refused { (fault : EngineFault) →
-            assign_refusal self.old.given self.old.journal.events part ≡ Some fault
+            assign_refusal (given_of T.outcome self.old) self.old.journal.events part ≡ Some fault
             → (result ≡ Err fault) × (self.new.journal.events ≡ self.old.journal.events)
             × (self.new.link ≡ self.old.link) }
         ensures stays { OnErr result (self.new.journal.events ≡ self.old.journal.events) }
@@ -167,9 +206,7 @@ impl<'a, L: Link> Engine<'a, L> {
             (L.faults self.new.link) }
         ensures keeps { L.is_told self.old.link ≡ true
             → L.store self.new.link ≡ L.store self.old.link }
-        ensures given { self.new.given ≡ self.old.given }
-        ensures told { L.is_told self.new.link ≡ L.is_told self.old.link }
-        ensures count { L.faults self.old.link ≤ L.faults self.new.link }
+        ensures asks { Asks T.outcome L.is_told L.faults self.old self.new }
     {
         self.may_assign(part)?;
         self.journal.reserve(self.state.outstanding() + 1)?;
@@ -194,22 +231,20 @@ impl<'a, L: Link> Engine<'a, L> {
         ensures effect { (outcome : Result (Unit {0}) ClientFault) × IsStored
             (L.is_told self.old.link) (L.store self.old.link) (L.store self.new.link)
             (L.faults self.old.link) (L.faults self.new.link) part
-            (commit_of self.old.given self.old.journal.events part).commit outcome × Does result
-            (commit_step self.old.given self.old.journal.events part outcome)
+            (commit_of (given_of T.outcome self.old) self.old.journal.events part).commit outcome × Does result
+            (commit_step (given_of T.outcome self.old) self.old.journal.events part outcome)
             self.old.journal.events self.new.journal.events }
         ensures refused { (fault : EngineFault) →
-            commit_refusal self.old.given self.old.journal.events part ≡ Some fault
+            commit_refusal (given_of T.outcome self.old) self.old.journal.events part ≡ Some fault
             → (result ≡ Err fault) × (self.new.journal.events ≡ self.old.journal.events)
             × (self.new.link ≡ self.old.link) }
         ensures stays { L.is_told self.old.link ≡ true
             → KeepsStore result (L.store self.old.link) (L.store self.new.link) }
         ensures cause { result ≡ Err (Failed LinkFailed) → HasRisen (L.faults self.old.link)
             (L.faults self.new.link) }
-        ensures others { L.is_told self.old.link ≡ true → StoresOnly (has_log self.old.given)
+        ensures others { L.is_told self.old.link ≡ true → StoresOnly (has_log (given_of T.outcome self.old))
             (L.store self.old.link) (L.store self.new.link) }
-        ensures given { self.new.given ≡ self.old.given }
-        ensures told { L.is_told self.new.link ≡ L.is_told self.old.link }
-        ensures count { L.faults self.old.link ≤ L.faults self.new.link }
+        ensures asks { Asks T.outcome L.is_told L.faults self.old self.new }
     {
         self.may_commit(part)?;
         self.journal.reserve(self.state.outstanding() + 1)?;
@@ -226,10 +261,9 @@ impl<'a, L: Link> Engine<'a, L> {
         requires some { 0 < max }
         requires few { max ≤ MAX_RECORDS }
         ensures effect { Does result
-            (poll_step self.old.given self.old.journal.events part max)
+            (poll_step (given_of T.outcome self.old) self.old.journal.events part max)
             self.old.journal.events self.new.journal.events }
-        ensures given { self.new.given ≡ self.old.given }
-        ensures link { self.new.link ≡ self.old.link }
+        ensures keeps { Keeps T.outcome self.old self.new }
     {
         self.may_poll(part)?;
         let Some(first) = self.state.first_left(part) else {
@@ -251,20 +285,20 @@ impl<'a, L: Link> Engine<'a, L> {
     ///
     /// Refuses with `Closed`, `JournalFull` or `NoMemory`, the first that applies. Makes the place
     /// that `settle` will need.
-    pub fn take(&mut self, worker: u32) -> Result<Option<Job<'a>>, EngineFault>
+    pub fn take(&mut self, worker: u32) -> Result<Option<Job<'a, T>>, EngineFault>
         requires { worker < 256 }
+        ensures task { IfOk result (λ taken. IfSome taken (λ job. job.task.now ≡ self.old.task)) }
         ensures effect { Does (taken result)
-            (take_step self.old.given self.old.journal.events worker)
+            (take_step (given_of T.outcome self.old) self.old.journal.events worker)
             self.old.journal.events self.new.journal.events }
-        ensures given { self.new.given ≡ self.old.given }
-        ensures link { self.new.link ≡ self.old.link }
+        ensures keeps { Keeps T.outcome self.old self.new }
     {
         self.has_room(2)?;
         let Some((part, offset)) = self.state.next() else {
             return Ok(None);
         };
         self.journal.reserve(self.state.outstanding() + 2)?;
-        let job = self.state.dispatch(worker, part, offset)?;
+        let job = self.state.dispatch(self.task, worker, part, offset)?;
         self.journal.push(Event::Dispatch {
             ticket: job.ticket,
             worker,
@@ -278,22 +312,20 @@ impl<'a, L: Link> Engine<'a, L> {
 
     /// Settles a result: adds Success, Failure or Stale, unless the engine has ended or expects no
     /// such result. Takes no memory.
-    pub fn settle(&mut self, done: Finished<'a>) -> Settled<'a>
+    pub fn settle(&mut self, done: Finished<'a, T>) -> Settled<'a, T>
         ensures closed { has_ended self.old.journal.events ≡ true → result ≡ Closed done.entry
             × self.new.journal.events ≡ self.old.journal.events }
         ensures stranger { has_ended self.old.journal.events ≡ false
-            → (IsExpected self.old.given self.old.journal.events (finished_job done.entry) → ⊥)
+            → (Expects T.outcome T.same self.old done.entry → ⊥)
             → result ≡ Stranger done.entry
             × self.new.journal.events ≡ self.old.journal.events }
         ensures settles { has_ended self.old.journal.events ≡ false
-            → IsExpected self.old.given self.old.journal.events (finished_job done.entry)
-            → Settles result (settle_step self.old.given self.old.journal.events
+            → Expects T.outcome T.same self.old done.entry → Settles result (settle_step (given_of T.outcome self.old) self.old.journal.events
             (finished_job done.entry) done.entry.outcome)
             self.old.journal.events self.new.journal.events }
-        ensures given { self.new.given ≡ self.old.given }
-        ensures link { self.new.link ≡ self.old.link }
+        ensures keeps { Keeps T.outcome self.old self.new }
     {
-        if !self.state.expects(&done) {
+        if !done.task.is_same(self.task) || !self.state.expects(&done) {
             return Settled::Stranger(done);
         }
         if !self.state.is_current(done.part, done.epoch) {
@@ -306,11 +338,11 @@ impl<'a, L: Link> Engine<'a, L> {
     }
 
     /// Whether `settle` would answer neither `Closed` nor `Stranger`.
-    pub fn expects(&self, done: &Finished<'a>) -> bool
+    pub fn expects(&self, done: &Finished<'a, T>) -> bool
         ensures { IsTrue result ↔ ((has_ended self.now.journal.events ≡ false)
-            × IsExpected self.now.given self.now.journal.events (finished_job done.now)) }
+            × Expects T.outcome T.same self.now done.now) }
     {
-        self.state.expects(done)
+        done.task.is_same(self.task) && self.state.expects(done)
     }
 
     /// Makes room for `n` events beyond those kept for the jobs that are out. Fails only where there
@@ -319,8 +351,7 @@ impl<'a, L: Link> Engine<'a, L> {
         ensures enough { n ≤ spare self.old.journal → IsOk result }
         ensures room { OnOk result (n ≤ spare self.new.journal) }
         ensures events { self.new.journal.events ≡ self.old.journal.events }
-        ensures given { self.new.given ≡ self.old.given }
-        ensures link { self.new.link ≡ self.old.link }
+        ensures keeps { Keeps T.outcome self.old self.new }
     {
         self.journal
             .reserve(self.state.outstanding() + u64::from(n))
@@ -329,23 +360,21 @@ impl<'a, L: Link> Engine<'a, L> {
     // Has the commit of a held part stored: adds Commit, or CommitFailed where the client failed for
     // another cause than memory. There has to be a place for the event.
     pub(crate) fn store(&mut self, part: u32) -> Result<Committed, EngineFault>
-        requires may { commit_refusal self.old.given self.old.journal.events part ≡ None }
+        requires may { commit_refusal (given_of T.outcome self.old) self.old.journal.events part ≡ None }
         requires room { length (open_jobs self.old.journal.events) + 1 ≤ self.old.journal.room }
         ensures effect { (outcome : Result (Unit {0}) ClientFault) × IsStored
             (L.is_told self.old.link) (L.store self.old.link) (L.store self.new.link)
             (L.faults self.old.link) (L.faults self.new.link) part
-            (commit_of self.old.given self.old.journal.events part).commit outcome × Does result
-            (commit_step self.old.given self.old.journal.events part outcome)
+            (commit_of (given_of T.outcome self.old) self.old.journal.events part).commit outcome × Does result
+            (commit_step (given_of T.outcome self.old) self.old.journal.events part outcome)
             self.old.journal.events self.new.journal.events }
         ensures stays { L.is_told self.old.link ≡ true
             → KeepsStore result (L.store self.old.link) (L.store self.new.link) }
         ensures cause { result ≡ Err (Failed LinkFailed) → HasRisen (L.faults self.old.link)
             (L.faults self.new.link) }
-        ensures others { L.is_told self.old.link ≡ true → StoresOnly (has_log self.old.given)
+        ensures others { L.is_told self.old.link ≡ true → StoresOnly (has_log (given_of T.outcome self.old))
             (L.store self.old.link) (L.store self.new.link) }
-        ensures given { self.new.given ≡ self.old.given }
-        ensures told { L.is_told self.new.link ≡ L.is_told self.old.link }
-        ensures count { L.faults self.old.link ≤ L.faults self.new.link }
+        ensures asks { Asks T.outcome L.is_told L.faults self.old self.new }
         ensures room { (result ≡ Err NoMemory)
             ⊎ (self.new.journal.room + 1 ≡ self.old.journal.room) }
     {
@@ -378,15 +407,15 @@ impl<'a, L: Link> Engine<'a, L> {
     }
 
     // Adds Success or Failure for the result of a current job.
-    fn conclude(&mut self, done: Finished<'a>) -> Settled<'a>
-        requires expected { IsExpected self.old.given self.old.journal.events (finished_job done) }
+    fn conclude(&mut self, done: Finished<'a, T>) -> Settled<'a, T>
+        requires expected { IsExpected (given_of T.outcome self.old) self.old.journal.events (finished_job done) }
+        requires same { T.outcome done.task.now ≡ T.outcome self.old.task }
         requires current { (is_held self.old.journal.events done.part
             && (done.epoch == epoch_of self.old.journal.events done.part)) ≡ true }
-        ensures settles { Settles result (settle_step self.old.given self.old.journal.events
+        ensures settles { Settles result (settle_step (given_of T.outcome self.old) self.old.journal.events
             (finished_job done.entry) done.entry.outcome)
             self.old.journal.events self.new.journal.events }
-        ensures given { self.new.given ≡ self.old.given }
-        ensures link { self.new.link ≡ self.old.link }
+        ensures keeps { Keeps T.outcome self.old self.new }
     {
         let Finished {
             ticket,
@@ -396,6 +425,7 @@ impl<'a, L: Link> Engine<'a, L> {
             attempt,
             entry,
             rules: _,
+            task: _,
             outcome,
         } = done;
         match outcome {
@@ -420,13 +450,13 @@ impl<'a, L: Link> Engine<'a, L> {
 
     // The state of a part that is assigned with this commit.
     fn resumed(&self, part: u32, stored: &StoredCommit) -> Result<PartitionState, EngineFault>
-        requires known { has_log self.now.given part ≡ true }
+        requires known { has_log (given_of T.outcome self.now) part ≡ true }
         requires small { stored.now.position < 2 ^ 63 }
         ensures state { IfOk result (λ state. StandsFor state.window stored.now.position 0
-            (resumed_marks stored.now (records_of self.now.given part))) }
-        ensures read { OnOk result (map_refusal self.now.given.setup.settings.bad_map stored.now ≡ None) }
+            (resumed_marks stored.now (records_of (given_of T.outcome self.now) part))) }
+        ensures read { OnOk result (map_refusal self.now.setup.settings.bad_map stored.now ≡ None) }
         ensures fault { IfErr result (λ e. (e ≡ NoMemory) ⊎ ((f : MapFault) × (e ≡ BadMap f) ×
-            (map_refusal self.now.given.setup.settings.bad_map stored.now ≡ Some f))) }
+            (map_refusal self.now.setup.settings.bad_map stored.now ≡ Some f))) }
     {
         let Some(log) = self.state.logs.log(part) else {
             unreachable!();
@@ -437,10 +467,10 @@ impl<'a, L: Link> Engine<'a, L> {
     // The commit of a held part as it stands.
     fn commit_of(&self, part: u32) -> Result<SizedCommit, AllocError>
         requires held { is_held self.now.journal.events part ≡ true }
-        requires known { has_log self.now.given part ≡ true }
-        ensures commit { IfOk result (λ c. c ≡ commit_of self.now.given self.now.journal.events part) }
+        requires known { has_log (given_of T.outcome self.now) part ≡ true }
+        ensures commit { IfOk result (λ c. c ≡ commit_of (given_of T.outcome self.now) self.now.journal.events part) }
         ensures position { IfOk result (λ c. c.commit.position < 2 ^ 63) }
-        ensures map { IfOk result (λ c. length c.commit.map ≤ self.now.given.setup.settings.map_limit) }
+        ensures map { IfOk result (λ c. length c.commit.map ≤ self.now.setup.settings.map_limit) }
     {
         let Some(held) = self.state.held(part) else {
             unreachable!();
@@ -454,9 +484,9 @@ impl<'a, L: Link> Engine<'a, L> {
 
     // What is known of a part with a log.
     pub(crate) fn part(&self, part: u32) -> Result<&PartState, EngineFault>
-        ensures knows { IfOk result (λ state. has_log self.now.given part ≡ true
-            × PartKeeps self.now.given self.now.journal.events part state.now) }
-        ensures unknown { IfErr result (λ e. e ≡ UnknownPart × has_log self.now.given part ≡ false) }
+        ensures knows { IfOk result (λ state. has_log (given_of T.outcome self.now) part ≡ true
+            × PartKeeps (given_of T.outcome self.now) self.now.journal.events part state.now) }
+        ensures unknown { IfErr result (λ e. e ≡ UnknownPart × has_log (given_of T.outcome self.now) part ≡ false) }
         ensures runs { has_ended self.now.journal.events ≡ false }
         ensures flows { is_draining self.now.journal.events ≡ false }
     {
@@ -468,7 +498,7 @@ impl<'a, L: Link> Engine<'a, L> {
 
     // Why an assignment of the part is refused before the link is asked.
     fn may_assign(&self, part: u32) -> Result<(), EngineFault>
-        ensures { result ≡ refused_by (assign_refusal self.now.given self.now.journal.events part) }
+        ensures { result ≡ refused_by (assign_refusal (given_of T.outcome self.now) self.now.journal.events part) }
     {
         if self.part(part)?.held.is_some() {
             return Err(EngineFault::AlreadyHeld);
@@ -478,7 +508,7 @@ impl<'a, L: Link> Engine<'a, L> {
 
     // Why a commit of the part is refused before the link is asked.
     fn may_commit(&self, part: u32) -> Result<(), EngineFault>
-        ensures { result ≡ refused_by (commit_refusal self.now.given self.now.journal.events part) }
+        ensures { result ≡ refused_by (commit_refusal (given_of T.outcome self.now) self.now.journal.events part) }
     {
         if self.part(part)?.held.is_none() {
             return Err(EngineFault::NotHeld);
@@ -488,7 +518,7 @@ impl<'a, L: Link> Engine<'a, L> {
 
     // Why a poll of the part is refused, whatever is left of it.
     fn may_poll(&self, part: u32) -> Result<(), EngineFault>
-        ensures { result ≡ refused_by (poll_refusal self.now.given self.now.journal.events part) }
+        ensures { result ≡ refused_by (poll_refusal (given_of T.outcome self.now) self.now.journal.events part) }
     {
         if self.part(part)?.held.is_none() {
             return Err(EngineFault::NotHeld);

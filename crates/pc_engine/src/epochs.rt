@@ -8,9 +8,10 @@ use crate::engine::{Committed, Engine};
 use crate::fault::EngineFault;
 use pc_model::Event;
 use pc_offset_client::ClientFault;
+use pc_task::Task;
 use pc_world::Link;
 
-impl<'a, L: Link> Engine<'a, L> {
+impl<'a, L: Link, T: Task> Engine<'a, L, T> {
     ghost use Rattle.std.specs.Prelude.{◌≡◌, ◌≤◌, Ok, Err, Some, Result};
     ghost use Rattle.pc_model.specs.Given.{has_log};
     ghost use Rattle.pc_model.specs.Known.{commit_of};
@@ -20,10 +21,11 @@ impl<'a, L: Link> Engine<'a, L> {
     ghost use Rattle.pc_engine.specs.declared.fault.EngineFault.{EngineFault};
     ghost use Rattle.pc_engine.specs.Effect.{Does, IsStored, KeepsStore, StoresOnly, crash_step, held_refusal, lose_step, refused_by, revoke_refusal, revoke_step, spare};
     ghost use Rattle.pc_engine.specs.declared.fault.EngineFault.TheVariants.{NoMemory};
+    ghost use Rattle.pc_engine.specs.Engine.{Asks, Keeps, given_of};
 
     /// How many parts there are, with a log or without one.
     pub fn parts(&self) -> u32
-        ensures { result ≡ length self.now.given.logs }
+        ensures { result ≡ length self.now.logs }
     {
         self.state.logs.parts()
     }
@@ -43,11 +45,10 @@ impl<'a, L: Link> Engine<'a, L> {
     /// applies.
     pub fn lose(&mut self, part: u32) -> Result<(), EngineFault>
         ensures effect { Does result
-            (lose_step self.old.given self.old.journal.events part)
+            (lose_step (given_of T.outcome self.old) self.old.journal.events part)
             self.old.journal.events self.new.journal.events }
         ensures memory { 1 ≤ spare self.old.journal → result ≡ Err NoMemory → ⊥ }
-        ensures given { self.new.given ≡ self.old.given }
-        ensures link { self.new.link ≡ self.old.link }
+        ensures keeps { Keeps T.outcome self.old self.new }
     {
         self.may_release(part, 1)?;
         self.journal.reserve(self.state.outstanding() + 1)?;
@@ -65,8 +66,7 @@ impl<'a, L: Link> Engine<'a, L> {
         ensures effect { Does result (crash_step self.old.journal.events)
             self.old.journal.events self.new.journal.events }
         ensures memory { 1 ≤ spare self.old.journal → result ≡ Err NoMemory → ⊥ }
-        ensures given { self.new.given ≡ self.old.given }
-        ensures link { self.new.link ≡ self.old.link }
+        ensures keeps { Keeps T.outcome self.old self.new }
     {
         self.has_room(1)?;
         self.journal.reserve(self.state.outstanding() + 1)?;
@@ -85,22 +85,20 @@ impl<'a, L: Link> Engine<'a, L> {
         ensures effect { (outcome : Result (Unit {0}) ClientFault) × IsStored
             (L.is_told self.old.link) (L.store self.old.link) (L.store self.new.link)
             (L.faults self.old.link) (L.faults self.new.link) part
-            (commit_of self.old.given self.old.journal.events part).commit outcome × Does result
-            (revoke_step self.old.given self.old.journal.events part outcome)
+            (commit_of (given_of T.outcome self.old) self.old.journal.events part).commit outcome × Does result
+            (revoke_step (given_of T.outcome self.old) self.old.journal.events part outcome)
             self.old.journal.events self.new.journal.events }
         ensures refused { (fault : EngineFault) →
-            revoke_refusal self.old.given self.old.journal.events part ≡ Some fault
+            revoke_refusal (given_of T.outcome self.old) self.old.journal.events part ≡ Some fault
             → (result ≡ Err fault) × (self.new.journal.events ≡ self.old.journal.events)
             × (self.new.link ≡ self.old.link) }
         ensures stays { L.is_told self.old.link ≡ true
             → KeepsStore result (L.store self.old.link) (L.store self.new.link) }
         ensures cause { result ≡ Ok (Some LinkFailed) → HasRisen (L.faults self.old.link)
             (L.faults self.new.link) }
-        ensures others { L.is_told self.old.link ≡ true → StoresOnly (has_log self.old.given)
+        ensures others { L.is_told self.old.link ≡ true → StoresOnly (has_log (given_of T.outcome self.old))
             (L.store self.old.link) (L.store self.new.link) }
-        ensures given { self.new.given ≡ self.old.given }
-        ensures told { L.is_told self.new.link ≡ L.is_told self.old.link }
-        ensures count { L.faults self.old.link ≤ L.faults self.new.link }
+        ensures asks { Asks T.outcome L.is_told L.faults self.old self.new }
     {
         self.may_release(part, 2)?;
         self.journal.reserve(self.state.outstanding() + 2)?;
@@ -114,7 +112,7 @@ impl<'a, L: Link> Engine<'a, L> {
     fn may_release(&self, part: u32, events: u64) -> Result<(), EngineFault>
         requires { events ≤ 2 }
         ensures { result ≡ refused_by
-            (held_refusal self.now.given self.now.journal.events part events) }
+            (held_refusal (given_of T.outcome self.now) self.now.journal.events part events) }
     {
         if self.part(part)?.held.is_none() {
             return Err(EngineFault::NotHeld);

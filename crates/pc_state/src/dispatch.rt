@@ -62,14 +62,21 @@ impl<'a> State<'a> {
         }
     }
 
-    /// Dispatches the next record to a worker. The only error is want of memory, after which the
-    /// state is as before.
-    pub fn dispatch(&mut self, worker: u32, part: u32, offset: u64) -> Result<Job<'a>, AllocError>
+    /// Dispatches the next record to a worker, with the function to run on it. The only error is want
+    /// of memory, after which the state is as before.
+    pub fn dispatch<T>(
+        &mut self,
+        task: &'a T,
+        worker: u32,
+        part: u32,
+        offset: u64,
+    ) -> Result<Job<'a, T>, AllocError>
         requires { (given : Given) × (h : List Event) × Knows given h self.old
             × (next_record given h ≡ Some (part, offset)) }
         ensures job { IfOk result (λ job. (given : Given) (h : List Event) → Knows given h self.old
             → next_record given h ≡ Some (part, offset)
             → plain_job job ≡ job_to_do given h worker part offset) }
+        ensures task { IfOk result (λ job. job.task.now ≡ task.now) }
         ensures dispatched { OnOk result ((given : Given) (h : List Event) → Knows given h self.old
             → next_record given h ≡ Some (part, offset)
             → MayCome given (Dispatch (dispatch_count h + 1) worker part offset (epoch_of h part)
@@ -106,6 +113,7 @@ impl<'a> State<'a> {
             attempt,
             entry: entry.record,
             rules: &self.setup.settings.rules,
+            task,
         })
     }
 }

@@ -8,7 +8,7 @@ ghost use Rattle.pc_model.specs.Given.{Given, record_at};
 ghost use Rattle.pc_model.specs.Epochs.{epoch_of, is_held};
 ghost use Rattle.pc_batch.specs.Record.{plain};
 ghost use Rattle.pc_shards.specs.Entries.{entry_at, of_part};
-ghost use Rattle.pc_task.specs.Jobs.{finished_job};
+ghost use Rattle.pc_task.specs.Results.{finished_job};
 ghost use Rattle.pc_state.specs.Calls.{IsExpected};
 ghost use Rattle.pc_state.specs.OpenJobs.{kept_job, open_job};
 ghost use Rattle.pc_state.specs.declared.jobs.OpenJob.{OpenJob};
@@ -17,11 +17,11 @@ ghost use Rattle.pc_state.specs.State.{Knows, MayCome};
 use crate::jobs::OpenJob;
 use crate::state::State;
 use pc_batch::RecordRef;
-use pc_task::Finished;
+use pc_task::{Finished, Task};
 
 impl<'a> State<'a> {
     /// Whether the result is of a job that is out, of the log's record and by the setup's rules.
-    pub fn expects(&self, done: &Finished<'a>) -> bool
+    pub fn expects<T: Task>(&self, done: &Finished<'a, T>) -> bool
         ensures { (given : Given) (h : List Event) → Knows given h self.now
             → (IsTrue result ↔ IsExpected given h (finished_job done.now)) }
     {

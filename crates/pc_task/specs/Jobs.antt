@@ -1,14 +1,17 @@
--- A job and its result as plain values, and the outcome that its rules give.
+-- A job as a plain value, and the outcome that its function gives.
 use Rattle.std.specs.Prelude.{ℕ}
 use Rattle.pc_model.specs.declared.outcome.Outcome.{Outcome}
 use Rattle.pc_model.specs.declared.outcome.Rules.{Rules}
 use Rattle.pc_model.specs.Record.{Record}
-use Rattle.pc_model.specs.Outcomes.{outcome_of}
 use Rattle.pc_batch.specs.Record.{plain}
 use Rattle.pc_task.specs.declared.job.Job.{Job}
-use Rattle.pc_task.specs.declared.finished.Finished.{Finished}
 
--- a job without where its record and its rules lie in memory
+-- what comes of the attempts of a function: by the rules, the part, the record, and the number of the
+-- attempt, counted from 1
+abbrev pub Outcomes : Type 0
+Outcomes = Rules → ℕ → Record → ℕ → Outcome
+
+-- a job without its function, and without where its record and its rules lie in memory
 pub record PlainJob : Type 0 where
   pub ticket : ℕ
   pub worker : ℕ
@@ -18,7 +21,7 @@ pub record PlainJob : Type 0 where
   pub entry : Record
   pub rules : Rules
 
-abbrev pub plain_job : Job → PlainJob
+abbrev pub plain_job : {T : Type 0} → Job T → PlainJob
 plain_job job = record {
   ticket = job.ticket;
   worker = job.worker;
@@ -29,18 +32,6 @@ plain_job job = record {
   rules = job.rules.now;
 }
 
--- the job that a result is of
-abbrev pub finished_job : Finished → PlainJob
-finished_job done = record {
-  ticket = done.ticket;
-  worker = done.worker;
-  part = done.part;
-  epoch = done.epoch;
-  attempt = done.attempt;
-  entry = plain done.entry;
-  rules = done.rules.now;
-}
-
--- the outcome that the job's rules give
-abbrev pub due_outcome : PlainJob → Outcome
-due_outcome job = outcome_of job.rules job.part job.entry job.attempt
+-- the outcome that a function with these outcomes gives for the job
+abbrev pub due_outcome : Outcomes → PlainJob → Outcome
+due_outcome outcomes job = outcomes job.rules job.part job.entry job.attempt

@@ -1,16 +1,16 @@
 //! The result of a job.
 
 ghost use Rattle.std.specs.Prelude.{◌≡◌, ◌↔◌, IfOk, IsTrue};
-ghost use Rattle.pc_model.specs.Outcomes.{outcome_of};
 ghost use Rattle.pc_batch.specs.Record.{plain};
 
+use crate::task::{RuleTask, Task};
 use pc_batch::RecordRef;
 use pc_model::{Answer, FailRule, Outcome, Rules};
 use std::alloc::{AllocError, Global};
 
-/// A job that was worked on, with the outcome that its rules give.
+/// A job that was worked on, with the outcome that its function gives.
 #[derive(Debug, Drop)]
-pub struct Finished<'a> {
+pub struct Finished<'a, T: Task = RuleTask> {
     pub ticket: u64,
     pub worker: u32,
     pub part: u32,
@@ -18,16 +18,18 @@ pub struct Finished<'a> {
     pub attempt: u32,
     pub entry: RecordRef<'a>,
     pub rules: &'a Rules,
+    pub task: &'a T,
     pub outcome: Outcome,
-    pub ghost by_rules: { outcome ≡ outcome_of rules.now part (plain entry) attempt },
+    pub ghost by_task: { outcome ≡ T.outcome task.now rules.now part (plain entry) attempt },
 }
 
-impl<'a> Finished<'a> {
-    ghost use Rattle.pc_task.specs.Jobs.{finished_job};
+impl<'a, T: Task> Finished<'a, T> {
+    ghost use Rattle.pc_task.specs.Results.{finished_job};
 
     /// A copy of the result. The only error is want of memory.
-    pub fn copy(&self, alloc: Global) -> Result<Finished<'a>, AllocError>
+    pub fn copy(&self, alloc: Global) -> Result<Finished<'a, T>, AllocError>
         ensures job { IfOk result (λ done. finished_job done ≡ finished_job self.now) }
+        ensures task { IfOk result (λ done. done.task ≡ self.now.task) }
         ensures outcome { IfOk result (λ done. done.outcome ≡ self.now.outcome) }
     {
         Ok(Finished {
@@ -38,6 +40,7 @@ impl<'a> Finished<'a> {
             attempt: self.attempt,
             entry: self.entry,
             rules: self.rules,
+            task: self.task,
             outcome: copy_of(alloc, &self.outcome)?,
         })
     }

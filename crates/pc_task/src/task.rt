@@ -4,7 +4,6 @@ ghost use Rattle.std.specs.Prelude.{◌≡◌, IfOk, option_map};
 ghost use Rattle.std.specs.Borrow.{Bor};
 ghost use Rattle.pc_model.specs.Outcomes.{fail_rule_of};
 ghost use Rattle.pc_model.specs.declared.outcome.FailRule.{FailRule};
-ghost use Rattle.pc_task.specs.Jobs.{due_outcome, plain_job};
 
 use crate::answer::answer_of;
 use crate::job::Job;
@@ -14,11 +13,31 @@ use std::alloc::{AllocError, Global};
 /// The code of a failure that the rules ask for.
 const RULE_CODE: u32 = 1;
 
-/// A function that is run on records. Its outcome is the one that the job's rules give.
+/// A function that is run on records. What comes of an attempt goes by the rules, the part, the
+/// record and the number of the attempt, and by nothing else.
 pub trait Task {
+    ghost use Rattle.std.specs.Prelude.{◌≡◌, ℕ, Bool, true, IfOk, IsTrue};
+    ghost use Rattle.pc_model.specs.declared.outcome.Outcome.{Outcome};
+    ghost use Rattle.pc_model.specs.declared.outcome.Rules.{Rules};
+    ghost use Rattle.pc_model.specs.Record.{Record};
+    ghost use Rattle.pc_task.specs.Jobs.{due_outcome, plain_job};
+
+    /// The outcome of an attempt, counted from 1, at a record of a part.
+    ghost outcome : { Self → Rules → ℕ → Record → ℕ → Outcome };
+
+    /// Whether two functions count as the same.
+    ghost same : { Self → Self → Bool };
+
     /// Runs the function on the job's record. The only error is want of memory.
-    fn call(&self, alloc: Global, job: &Job<'_>) -> Result<Outcome, AllocError>
-        ensures { IfOk result (λ outcome. outcome ≡ due_outcome (plain_job job.now)) };
+    fn call(&self, alloc: Global, job: &Job<'_, Self>) -> Result<Outcome, AllocError>
+        ensures { IfOk result (λ it. it ≡ due_outcome (outcome self.now) (plain_job job.now)) };
+
+    /// Whether both functions count as the same. Each does so with itself, and two that have not the
+    /// same outcomes never do.
+    fn is_same(&self, other: &Self) -> bool
+        ensures same { result ≡ same self.now other.now }
+        ensures itself { self.now ≡ other.now → IsTrue result }
+        ensures outcomes { IsTrue result → outcome self.now ≡ outcome other.now };
 }
 
 /// The functions of the program, which do what the rules say.
@@ -26,11 +45,22 @@ pub trait Task {
 pub struct RuleTask;
 
 impl Task for RuleTask {
-    fn call(&self, alloc: Global, job: &Job<'_>) -> Result<Outcome, AllocError> {
+    ghost use Rattle.std.specs.Prelude.{true};
+    ghost use Rattle.pc_model.specs.Outcomes.{outcome_of};
+
+    ghost outcome = { λ _. outcome_of };
+
+    ghost same = { λ _ _. true };
+
+    fn call(&self, alloc: Global, job: &Job<'_, RuleTask>) -> Result<Outcome, AllocError> {
         match fail_rule(job.rules.fails.as_slice(), job.part, job.entry.offset) {
             Some(rule) if job.attempt <= rule.times => Ok(Outcome::Bad(RULE_CODE)),
             _ => Ok(Outcome::Good(answer_of(alloc, job.rules.work, job.entry.value)?)),
         }
+    }
+
+    fn is_same(&self, _other: &RuleTask) -> bool {
+        true
     }
 }
 

@@ -78,6 +78,7 @@ fn a_record_fails_as_often_as_its_first_rule_says(rt: HostRuntime) -> Result<(),
             attempt,
             entry,
             rules: &rules,
+            task: &RuleTask,
         };
         match RuleTask.call(rt.alloc(), &job) {
             Ok(outcome) => {
@@ -108,6 +109,7 @@ fn result_of<'a>(
         attempt: 1,
         entry,
         rules,
+        task: &RuleTask,
     };
     match RuleTask.call(alloc, &job) {
         Ok(outcome) => Ok(job.finish(outcome)),

@@ -1,6 +1,7 @@
 -- Where nothing refuses the commit and there is a place for its event, it is stored.
 use Rattle.std.proofs.Common.{◌∙◌, ap, refl, Err}
 use Rattle.std.proofs.lemmas.Result.{err_from_is_err_and}
+use Rattle.pc_engine.specs.Engine.{given_of}
 use Rattle.pc_engine.specs.declared.fault.EngineFault.{EngineFault}
 use Rattle.pc_engine.proofs.EngineLemmas.{commit-refused, commit-unmade}
 use Rattle.pc_engine.proofs.engine.Engine.commit.Goals as goal
@@ -8,7 +9,7 @@ use Rattle.pc_engine.proofs.engine.Engine.commit.Goals as goal
 pub returns-in_err-may_commit-clause-effect : goal.returns-in_err-may_commit-clause-effect
 returns-in_err-may_commit-clause-effect g c =
     let got = err_from_is_err_and c.from_residual.result c.from_residual.ensures.1 in
-    commit-refused c.from_residual.result c.in_err-may_commit.field-0.0 c.args.self.now.given
+    commit-refused c.from_residual.result c.in_err-may_commit.field-0.0 (given_of g.T.Task.outcome c.args.self.now)
     c.args.self.now.journal.events c.args.self.now.journal.events c.args.part
     (g.L.Link.is_told c.args.self.now.link) (g.L.Link.store c.args.self.now.link)
     (g.L.Link.store c.args.self.now.link)
@@ -19,7 +20,7 @@ pub returns-in_err-reserve-clause-effect : goal.returns-in_err-reserve-clause-ef
 returns-in_err-reserve-clause-effect g c =
     let got = err_from_is_err_and c.from_residual-in_err-reserve.result
     c.from_residual-in_err-reserve.ensures.1 in
-    commit-unmade c.from_residual-in_err-reserve.result c.args.self.now.given
+    commit-unmade c.from_residual-in_err-reserve.result (given_of g.T.Task.outcome c.args.self.now)
     c.args.self.now.journal.events c.reserve.new.self.events c.args.part
     (g.L.Link.is_told c.args.self.now.link) (g.L.Link.store c.args.self.now.link)
     (g.L.Link.store c.self.inside.client.link)

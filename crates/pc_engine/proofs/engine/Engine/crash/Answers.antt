@@ -8,7 +8,7 @@ invariant_of-self-2 g c =
     let knows = c.self.invariant.knows in
     crashed-keeps c.self.inside.state c.self.inside.journal.events
     (g.L.Link.is_told c.self.inside.client.link)
-    (kept_for (g.L.Link.store c.self.inside.client.link))
+    (g.T.Task.outcome c.self.inside.task.now) (kept_for (g.L.Link.store c.self.inside.client.link))
     c.self.inside.journal.room c.self.invariant c.crash.new.self c.reserve.new.self.events
     c.push.new.self.events c.reserve.new.self.room c.push.new.self.room c.outstanding.result _
     (rw (← c.self.view_is) at c.in_ok-has_room.ensures) (c.crash.ensures _ _ knows)

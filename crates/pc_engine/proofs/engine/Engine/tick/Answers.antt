@@ -9,12 +9,12 @@ pub tick-requires : goal.tick-requires
 tick-requires g c = (
   given_to c.self.inside.state c.self.inside.journal.events
       (g.L.Link.is_told c.self.inside.client.link)
-      (kept_for (g.L.Link.store c.self.inside.client.link)),
+      (g.T.Task.outcome c.self.inside.task.now) (kept_for (g.L.Link.store c.self.inside.client.link)),
   c.self.inside.journal.events,
   c.self.invariant.knows,
   may-tick c.self.inside.state c.self.inside.journal.events
       (g.L.Link.is_told c.self.inside.client.link)
-      (kept_for (g.L.Link.store c.self.inside.client.link))
+      (g.T.Task.outcome c.self.inside.task.now) (kept_for (g.L.Link.store c.self.inside.client.link))
       c.self.inside.journal.room c.self.invariant c.args.now c.if-now-self.false
       (not-full _ _ (rw (← c.self.view_is) at c.in_ok-has_room.ensures)),
 )
@@ -25,7 +25,7 @@ invariant_of-self-2 g c =
     let knows = c.self.invariant.knows in
     ticked-keeps c.self.inside.state c.self.inside.journal.events
     (g.L.Link.is_told c.self.inside.client.link)
-    (kept_for (g.L.Link.store c.self.inside.client.link))
+    (g.T.Task.outcome c.self.inside.task.now) (kept_for (g.L.Link.store c.self.inside.client.link))
     c.self.inside.journal.room c.self.invariant c.args.now c.if-now-self.false
     c.tick.new.self c.reserve.new.self.events c.push.new.self.events _ ok
     (λ may. c.tick.ensures _ _ knows may)

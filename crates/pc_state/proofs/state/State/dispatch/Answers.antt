@@ -22,20 +22,20 @@ next-found given h s p o e knows next is none =
     let nothing : ◌≡◌ {A = Option Entry} None (Some _) = sym none ∙ is ∙ found in cc nothing
 
 pub unreachable-requires : goal.unreachable-requires
-unreachable-requires c =
+unreachable-requires g c =
     let (given, h, knows, next) = c.requires in
     next-found given h c.args.self.now c.args.part c.args.offset (option_map plain c.entry.result)
     knows next c.entry.ensures (ap (option_map plain) c.in_default.is)
 
 pub overflow_add-attempt : goal.overflow_add-attempt
-overflow_add-attempt c =
+overflow_add-attempt g c =
     let (given, h, knows, next) = c.requires in
     let small = failed-small given h c.args.self.now c.args.part c.args.offset
     (plain c.in-Some.entry) knows next (sym (ap (option_map plain) c.in-Some.is) ∙ c.entry.ensures) in
     omega (arith, small)
 
 pub overflow_add-ticket : goal.overflow_add-ticket
-overflow_add-ticket c =
+overflow_add-ticket g c =
     let (given, h, knows, next) = c.requires in
     let small = dispatched-small given h c.args.self.now knows in omega (arith, small)
 
@@ -43,27 +43,27 @@ within : (n m l k : ℕ) → n < m → k ≡ m → l ≡ k → n < l
 within n m l k less count len = omega (arith, less, count, len)
 
 pub index-requires : goal.index-requires
-index-requires c =
+index-requires g c =
     let (given, h, knows, next) = c.requires in
     within c.args.part (length given.logs) (vec_len c.args.self.now.parts)
     (length c.args.self.now.parts.items) (next-below given h c.args.part c.args.offset next)
     knows.count c.args.self.now.parts.ok.0
 
 pub busy-requires : goal.busy-requires
-busy-requires c =
+busy-requires g c =
     let (given, h, knows, next) = c.requires in
     state-first given h c.args.self.now c.args.part c.args.offset knows
     (next-held given h c.args.part c.args.offset next)
     (next-open given h c.args.part c.args.offset next)
 
 pub returns-clause-job : goal.returns-clause-job
-returns-clause-job c = λ given h knows next. job-due given h c.args.self.now c.args.worker
+returns-clause-job g c = λ given h knows next. job-due given h c.args.self.now c.args.worker
     c.args.part c.args.offset c.index.result.now (plain c.in-Some.entry)
     c.args.self.now.setup.now.settings.rules knows next c.index.ensures
     (sym (ap (option_map plain) c.in-Some.is) ∙ c.entry.ensures) refl
 
 pub returns-clause-dispatched : goal.returns-clause-dispatched
-returns-clause-dispatched c = λ given h knows next may. knows-dispatch given h c.args.self.now
+returns-clause-dispatched g c = λ given h knows next may. knows-dispatch given h c.args.self.now
     (record {
       setup = c.args.self.now.setup;
       logs = c.args.self.now.logs;
