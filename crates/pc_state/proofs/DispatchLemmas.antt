@@ -27,6 +27,7 @@ use Rattle.pc_state.specs.declared.part.PartState.{PartState}
 use Rattle.pc_state.specs.declared.state.State.{State}
 use Rattle.pc_state.specs.Calls.{job_to_do, no_record}
 use Rattle.pc_state.specs.OpenJobs.{AreOpen, open_job}
+use Rattle.pc_state.proofs.LedgerLemmas.{counts-dispatch}
 use Rattle.pc_state.specs.State.{Knows, MayCome, PartKeeps, entries_of, is_early, is_kept_back, is_out, is_spent, is_waiting, waiting_of}
 use Rattle.pc_state.proofs.SettleLemmas.{find-open_jobs, job_of-above, unsettled-above}
 use Rattle.pc_state.proofs.StateLemmas.{AreWaiting-along, entries-held, entries-same, part-same, waiting-held, waiting-same}
@@ -264,6 +265,7 @@ pub record AddsJob (old new : State) (p o : ℕ) : Type 0 where
   pub clock : new.clock ≡ old.clock
   pub dispatched : new.dispatched ≡ old.dispatched + 1
   pub last : new.last ≡ Some p
+  pub ledger : new.ledger ≡ old.ledger
 
 open-none : (h : List Event) (t : ℕ) → is_settled h t ≡ false → job_of h t ≡ None → open_job h t
     ≡ None
@@ -304,6 +306,8 @@ knows-dispatch given h old new worker p o part entry knows next may adds part_is
   clock = adds.clock ∙ knows.clock;
   dispatched = adds.dispatched ∙ ap (λ (n : ℕ). n + 1) knows.dispatched ∙ counted;
   last = adds.last;
+  ledger = rw adds.ledger (counts-dispatch given h (dispatch_count h + 1) worker p o (epoch_of h p)
+      (failures_of h p o + 1) old.ledger knows.ledger);
 }
   where
     k : List Event

@@ -28,6 +28,7 @@ use Rattle.pc_state.specs.declared.part.HeldPart.{HeldPart}
 use Rattle.pc_state.specs.declared.part.PartState.{PartState}
 use Rattle.pc_state.specs.declared.state.State.{State}
 use Rattle.pc_state.specs.OpenJobs.{AreOpen, open_job}
+use Rattle.pc_state.proofs.LedgerLemmas.{counts-failure}
 use Rattle.pc_state.specs.State.{AreWaiting, Knows, KnowsPart, MayCome, PartKeeps, entries_of, is_early, is_kept_back, is_out, is_spent, same_place, waiting_of}
 use Rattle.pc_state.proofs.SettleLemmas.{open_jobs-failure}
 use Rattle.pc_state.proofs.StateLemmas.{entries-held, entries-same, waiting-same}
@@ -230,6 +231,7 @@ pub record Fails (old new : State) (p o ready : ℕ) (spent early : Bool) : Type
   pub clock : new.clock ≡ old.clock
   pub dispatched : new.dispatched ≡ old.dispatched
   pub last : new.last ≡ old.last
+  pub ledger : new.ledger ≡ old.ledger
 
 -- what is known of the parts is the same
 failure-knows : (given : Given) (h : List Event) (t code ready q : ℕ) (held : Option HeldPart)
@@ -462,4 +464,5 @@ module _ (given : Given) (h : List Event) (t p o code ready : ℕ) (old new : St
         (open_jobs-failure given h knows.legal t may.legal.0.outstanding code ready);
     dispatched = fails.dispatched ∙ knows.dispatched;
     last = fails.last ∙ knows.last;
+    ledger = rw fails.ledger (counts-failure given h t code ready old.ledger knows.ledger);
   }

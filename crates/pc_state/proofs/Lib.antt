@@ -1,4 +1,5 @@
 pub mod StateLemmas
+mod LedgerLemmas
 mod AddLemmas
 pub mod RetryLemmas
 pub mod PolledLemmas

@@ -29,7 +29,8 @@ use Rattle.pc_shards.specs.OpenEntries.{entry_of}
 use Rattle.pc_state.specs.declared.part.HeldPart.{HeldPart}
 use Rattle.pc_state.specs.declared.part.PartState.{PartState}
 use Rattle.pc_state.specs.declared.state.State.{State}
-use Rattle.pc_state.specs.State.{Knows, KnowsHeld, KnowsPart, MayCome, PartKeeps, entries_of, is_early, is_kept_back, is_out, is_spent, is_waiting, waiting_of}
+use Rattle.pc_state.specs.Ledger.{Counts}
+use Rattle.pc_state.specs.State.{Knows, KnowsHeld, KnowsPart, MayCome, PartKeeps, entries_of, is_early, is_kept_back, is_out, is_spent, is_waiting, sized, waiting_of, with_size}
 use Rattle.pc_state.proofs.AssignLemmas.{marks_of-assign, unpolled-begin}
 use Rattle.pc_state.proofs.OpenJobsLemmas.{AreOpen-along}
 use Rattle.pc_state.proofs.StateLemmas.{AreWaiting-along, each-set, entries-free, entries-held, entries-same, is_out-same, stands-along, waiting-free, waiting-held, waiting-same}
@@ -53,9 +54,10 @@ knows-part : (given : Given) (h : List Event) (v : Event) (old new : State) (p :
     → ((q : ℕ) → (p == q) ≡ false → SamePart given q h (v ∷ h))
     → jobs_of (v ∷ h) ≡ jobs_of h → open_jobs (v ∷ h) ≡ open_jobs h
     → now_of (v ∷ h) ≡ now_of h → ((q : ℕ) → entries_of given (v ∷ h) q ≡ entries_of given h q)
-    → ((q : ℕ) → waiting_of given (v ∷ h) q ≡ waiting_of given h q) → Knows given (v ∷ h) new
+    → ((q : ℕ) → waiting_of given (v ∷ h) q ≡ waiting_of given h q)
+    → Counts given (v ∷ h) new.ledger → Knows given (v ∷ h) new
 knows-part given h v old new p part knows may puts below keeps others jobs same_open now entries
-    waiting = record {
+    waiting counts = record {
       setup = knows.setup ∙ sym puts.setup;
       logs = knows.logs ∙ sym puts.logs;
       legal = may.legal;
@@ -75,6 +77,7 @@ knows-part given h v old new p part knows may puts below keeps others jobs same_
       jobs = rw puts.jobs (AreOpen-along h (v ∷ h) old.jobs same_open knows.jobs);
       dispatched = puts.dispatched ∙ knows.dispatched ∙ ap length (sym jobs);
       last = puts.last ∙ knows.last ∙ ap (λ js. option_map (λ j. j.part) (slice_get js 0)) (sym jobs);
+      ledger = counts;
     }
 
 -- ---- an assignment
@@ -120,8 +123,9 @@ pub knows-assigned : (given : Given) (h : List Event) (old new : State) (p : ℕ
     → p < length given.logs → PutsPart old new p part → part.epoch ≡ epoch_of h p + 1
     → part.held ≡ Some (record { window = window; next = stored.position; size = None })
     → StandsFor window.window stored.position 0 (resumed_marks stored (records_of given p))
+    → Counts given (Assign p (epoch_of h p + 1) stored.position stored.map ∷ h) new.ledger
     → Knows given (Assign p (epoch_of h p + 1) stored.position stored.map ∷ h) new
-knows-assigned given h old new p stored part window knows may below puts epoch held stands =
+knows-assigned given h old new p stored part window knows may below puts epoch held stands counts =
     knows-part given h (Assign p (epoch_of h p + 1) stored.position stored.map) old new p part knows may
     puts below (record {
       epoch = epoch ∙ sym (epoch_of-assign h p (epoch_of h p + 1) stored.position stored.map);
@@ -146,19 +150,13 @@ knows-assigned given h old new p stored part window knows may below puts epoch h
     refl refl refl
     (λ q. entries-assign given h p (epoch_of h p + 1) stored.position stored.map q may.legal.0.free)
     (λ q. waiting-assign given h p (epoch_of h p + 1) stored.position stored.map q may.legal.0.free)
+    counts
   where
     size-assign : (h : List Event) (p epoch position : ℕ) (text : List ℕ)
         → last_size (Assign p epoch position text ∷ h) p ≡ None
     size-assign h p epoch position text = simp (same_number p)
 
 -- ---- a commit, stored or failed
-
--- the part with another size of its last commit
-abbrev pub sized : ℕ → HeldPart → HeldPart
-sized size held = record { window = held.window; next = held.next; size = Some size }
-
-abbrev with_size : ℕ → PartState → PartState
-with_size size part = record { epoch = part.epoch; held = option_map (sized size) part.held }
 
 held-sized : (size : ℕ) (o : Option HeldPart) → is_some (option_map (sized size) o) ≡ is_some o
 held-sized size None = refl
@@ -180,9 +178,10 @@ module _ (given : Given) (h : List Event) (old new : State) (p position size : �
     (part : PartState) (knows : Knows given h old) (below : p < length given.logs)
     (puts : PutsPart old new p (with_size size part)) (keeps : PartKeeps given h p part) where
   pub knows-committed : MayCome given (Committed p position text size) h
+      → Counts given (Committed p position text size ∷ h) new.ledger
       → Knows given (Committed p position text size ∷ h) new
   unfolding entries_of waiting_of is_waiting is_kept_back is_spent is_early is_out marks_of known_records polled_records unpolled_records is_complete
-  knows-committed may =
+  knows-committed may counts =
       knows-part given h (Committed p position text size) old new p (with_size size part) knows may puts below
       (record {
         epoch = keeps.epoch;
@@ -191,12 +190,13 @@ module _ (given : Given) (h : List Event) (old new : State) (p position size : �
             (simp (same_number p)) keeps.knows;
       })
       (λ q apart. other_part given q (Committed p position text size) h apart) refl refl refl (λ q. refl)
-      (λ q. refl)
+      (λ q. refl) counts
 
   pub knows-failed : MayCome given (CommitFailed p position text size) h
+      → Counts given (CommitFailed p position text size ∷ h) new.ledger
       → Knows given (CommitFailed p position text size ∷ h) new
   unfolding entries_of waiting_of is_waiting is_kept_back is_spent is_early is_out marks_of known_records polled_records unpolled_records is_complete
-  knows-failed may =
+  knows-failed may counts =
       knows-part given h (CommitFailed p position text size) old new p (with_size size part) knows may puts below
       (record {
         epoch = keeps.epoch;
@@ -205,7 +205,7 @@ module _ (given : Given) (h : List Event) (old new : State) (p position size : �
             (simp (same_number p)) keeps.knows;
       })
       (λ q apart. other_part given q (CommitFailed p position text size) h apart) refl refl refl (λ q. refl)
-      (λ q. refl)
+      (λ q. refl) counts
 
 -- ---- what a state says of one part
 

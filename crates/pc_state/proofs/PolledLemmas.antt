@@ -38,6 +38,7 @@ use Rattle.pc_state.specs.declared.part.HeldPart.{HeldPart}
 use Rattle.pc_state.specs.declared.part.PartState.{PartState}
 use Rattle.pc_state.specs.declared.state.State.{State}
 use Rattle.pc_state.specs.Polls.{AreNextRecords, IsPolled, behind_last, is_open_in, new_entries}
+use Rattle.pc_state.proofs.LedgerLemmas.{counts-poll}
 use Rattle.pc_state.specs.State.{Knows, KnowsHeld, MayCome, PartKeeps, entries_of, is_early, is_kept_back, is_out, is_spent, is_waiting, waiting_of}
 use Rattle.pc_state.proofs.OpenJobsLemmas.{AreOpen-along}
 use Rattle.pc_state.proofs.PartEvents.{held-has_log, log-below}
@@ -382,10 +383,10 @@ module _ (given : Given) (h : List Event) (old : State) (p last : ℕ)
         ++ new_entries (filter (λ r. is_open_in part.window.window r.offset) records)
         → ChangesOnly p old.shards new.shards → new.retries ≡ old.retries → new.jobs ≡ old.jobs
         → new.clock ≡ old.clock → new.dispatched ≡ old.dispatched
-        → new.last ≡ old.last → IsPolled (map (λ r. r.offset) records) part polled
+        → new.last ≡ old.last → new.ledger ≡ old.ledger → IsPolled (map (λ r. r.offset) records) part polled
         → Knows given (Poll p (length records) last ∷ h) new
     knows-polled new epoch polled epoch_is setup logs items added others retries jobs now dispatched
-        last_same is =
+        last_same ledger is =
         let below = log-below given.logs p (held-has_log given h p knows.legal held) in record {
           setup = knows.setup ∙ sym setup;
           logs = knows.logs ∙ sym logs;
@@ -411,6 +412,7 @@ module _ (given : Given) (h : List Event) (old : State) (p last : ℕ)
           jobs = rw jobs (AreOpen-along h (Poll p (length records) last ∷ h) old.jobs refl knows.jobs);
           dispatched = dispatched ∙ knows.dispatched;
           last = last_same ∙ knows.last;
+          ledger = rw ledger (counts-poll given h p (length records) last old.ledger knows.ledger);
         }
       where
         entries-of : (new : State) → of_part new.shards p ≡ of_part old.shards p

@@ -21,6 +21,8 @@ use Rattle.pc_shards.specs.Entries.{of_part}
 use Rattle.pc_state.specs.declared.part.HeldPart.{HeldPart}
 use Rattle.pc_state.specs.declared.part.PartState.{PartState}
 use Rattle.pc_state.specs.declared.state.State.{State}
+use Rattle.pc_state.proofs.LedgerLemmas.{counts-lost, counts-revoke}
+use Rattle.pc_state.specs.Ledger.{Counts}
 use Rattle.pc_state.specs.State.{AreReleased, AreWaiting, Knows, KnowsPart, MayCome, PartKeeps, entries_of, same_place, waiting_of}
 use Rattle.pc_state.proofs.OpenJobsLemmas.{AreOpen-along}
 use Rattle.pc_state.proofs.PartEvents.{epoch_of-le, held-has_log, log-below}
@@ -63,6 +65,7 @@ pub record Releases (old new : State) (p : ℕ) (part : PartState) : Type 0 wher
   pub clock : new.clock ≡ old.clock
   pub dispatched : new.dispatched ≡ old.dispatched
   pub last : new.last ≡ old.last
+  pub ledger : new.ledger ≡ old.ledger
 
 module _ (given : Given) (h : List Event) (v : Event) (old new : State) (p : ℕ) (part : PartState)
     (knows : Knows given h old) (releases : Releases old new p part) (below : p < length given.logs)
@@ -70,7 +73,7 @@ module _ (given : Given) (h : List Event) (v : Event) (old new : State) (p : ℕ
     (epoch : epoch_of (v ∷ h) p ≡ epoch_of h p + 1) (free : is_held (v ∷ h) p ≡ false)
     (others : (q : ℕ) → (p == q) ≡ false → SamePart given q h (v ∷ h))
     (jobs : jobs_of (v ∷ h) ≡ jobs_of h) (same_open : open_jobs (v ∷ h) ≡ open_jobs h)
-    (now : now_of (v ∷ h) ≡ now_of h) where
+    (now : now_of (v ∷ h) ≡ now_of h) (counts : Counts given (v ∷ h) old.ledger) where
   entries : (q : ℕ) → of_part new.shards q ≡ entries_of given (v ∷ h) q
   entries q = elim (cases_Bool (q == p)) [
     | inl same ↦ subst (λ (u : ℕ). of_part new.shards u ≡ entries_of given (v ∷ h) u)
@@ -135,6 +138,7 @@ module _ (given : Given) (h : List Event) (v : Event) (old new : State) (p : ℕ
     dispatched = releases.dispatched ∙ knows.dispatched ∙ ap length (sym jobs);
     last = releases.last ∙ knows.last
         ∙ ap (λ (js : List Job). option_map (λ j. j.part) (slice_get js 0)) (sym jobs);
+    ledger = rw releases.ledger counts;
   }
 
 module _ (given : Given) (h : List Event) (old new : State) (p : ℕ) (part : PartState)
@@ -148,12 +152,14 @@ module _ (given : Given) (h : List Event) (old new : State) (p : ℕ) (part : Pa
   knows-lost may = knows-released given h (Lost p (epoch_of h p)) old new p part knows releases
       below over none may (epoch_of-lost h p (epoch_of h p)) (is_held-lost h p (epoch_of h p))
       (λ q apart. other_part given q (Lost p (epoch_of h p)) h apart) refl refl refl
+      (counts-lost given h p (epoch_of h p) old.ledger knows.ledger)
 
   pub knows-revoked : MayCome given (Revoke p (epoch_of h p)) h
       → Knows given (Revoke p (epoch_of h p) ∷ h) new
   knows-revoked may = knows-released given h (Revoke p (epoch_of h p)) old new p part knows releases
       below over none may (epoch_of-revoke h p (epoch_of h p)) (is_held-revoke h p (epoch_of h p))
       (λ q apart. other_part given q (Revoke p (epoch_of h p)) h apart) refl refl refl
+      (counts-revoke given h p (epoch_of h p) old.ledger knows.ledger)
 
 -- ---- a crash
 
@@ -179,8 +185,9 @@ pub record Crashes (old new : State) : Type 0 where
   pub last : new.last ≡ old.last
 
 pub knows-crashed : (given : Given) (h : List Event) (old new : State) → Knows given h old
-    → Crashes old new → MayCome given Crash h → Knows given (Crash ∷ h) new
-knows-crashed given h old new knows crashes may = record {
+    → Crashes old new → MayCome given Crash h → Counts given (Crash ∷ h) new.ledger
+    → Knows given (Crash ∷ h) new
+knows-crashed given h old new knows crashes may counts = record {
   setup = knows.setup ∙ sym crashes.setup;
   logs = knows.logs ∙ sym crashes.logs;
   legal = may.legal;
@@ -207,4 +214,5 @@ knows-crashed given h old new knows crashes may = record {
   jobs = rw crashes.jobs (AreOpen-along h (Crash ∷ h) old.jobs refl knows.jobs);
   dispatched = crashes.dispatched ∙ knows.dispatched;
   last = crashes.last ∙ knows.last;
+  ledger = counts;
 }

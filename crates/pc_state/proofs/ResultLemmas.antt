@@ -18,6 +18,7 @@ use Rattle.pc_laws.proofs.Lists.{In-filtered, and-left, and-right, not-false, tr
 use Rattle.pc_laws.proofs.StaleLaw.{job_of-In}
 use Rattle.pc_state.specs.declared.state.State.{State}
 use Rattle.pc_state.specs.OpenJobs.{AreOpen, open_job}
+use Rattle.pc_state.proofs.LedgerLemmas.{counts-stale}
 use Rattle.pc_state.specs.State.{Knows, MayCome, is_out}
 use Rattle.pc_state.proofs.SettleLemmas.{open_jobs-stale, outstanding-find}
 use Rattle.pc_state.proofs.StateLemmas.{AreWaiting-along, entries-same, part-same, waiting-same}
@@ -97,6 +98,7 @@ pub record DropsJob (old new : State) : Type 0 where
   pub clock : new.clock ≡ old.clock
   pub dispatched : new.dispatched ≡ old.dispatched
   pub last : new.last ≡ old.last
+  pub ledger : new.ledger ≡ old.ledger
 
 pub knows-stale : (given : Given) (h : List Event) (t : ℕ) (old new : State) → Knows given h old
     → MayCome given (Stale t) h → DropsJob old new
@@ -128,4 +130,5 @@ knows-stale given h t old new knows may drops jobs = record {
       (open_jobs-stale given h knows.legal t may.legal.0.outstanding);
   dispatched = drops.dispatched ∙ knows.dispatched;
   last = drops.last ∙ knows.last;
+  ledger = rw drops.ledger (counts-stale given h t old.ledger knows.ledger);
 }

@@ -24,6 +24,7 @@ use Rattle.pc_state.specs.declared.part.HeldPart.{HeldPart}
 use Rattle.pc_state.specs.declared.part.PartState.{PartState}
 use Rattle.pc_state.specs.declared.state.State.{State}
 use Rattle.pc_state.specs.OpenJobs.{AreOpen, open_job}
+use Rattle.pc_state.specs.Ledger.{Counts}
 use Rattle.pc_state.specs.State.{Knows, KnowsHeld, KnowsPart, MayCome, PartKeeps, entries_of, is_early, is_kept_back, is_out, is_spent, is_waiting, waiting_of}
 use Rattle.pc_state.proofs.SettleLemmas.{open_jobs-success}
 use Rattle.pc_state.proofs.StateLemmas.{AreWaiting-along, each-set, entries-held, entries-same, waiting-held, waiting-same}
@@ -203,9 +204,9 @@ pub knows-success : (given : Given) (h : List Event) (t p o : ℕ) (answer : Lis
     → ((u : ℕ) → settles (Success t answer) u ≡ (t == u))
     → length (open_jobs (Success t answer ∷ h)) + 1 ≡ length (open_jobs h)
     → AreOpen (Success t answer ∷ h) new.jobs)
-    → Knows given (Success t answer ∷ h) new
+    → Counts given (Success t answer ∷ h) new.ledger → Knows given (Success t answer ∷ h) new
 knows-success given h t p o answer old new was part held next knows may work below completes was_is
-    was_held epoch part_held stands same_next same_size jobs = record {
+    was_held epoch part_held stands same_next same_size jobs counts = record {
       setup = knows.setup ∙ sym completes.setup;
       logs = knows.logs ∙ sym completes.logs;
       legal = may.legal;
@@ -231,6 +232,7 @@ knows-success given h t p o answer old new was part held next knows may work bel
           (open_jobs-success given h knows.legal t may.legal.0.outstanding answer);
       dispatched = completes.dispatched ∙ knows.dispatched;
       last = completes.last ∙ knows.last;
+      ledger = counts;
     }
   where
     k : List Event

@@ -24,6 +24,7 @@ use Rattle.pc_shards.specs.Entries.{Entry, has_entry_at, of_part, with_busy}
 use Rattle.pc_shards.specs.OpenEntries.{entry_of, open_entries}
 use Rattle.pc_shards.proofs.Lists.{AllByRecursion-In}
 use Rattle.pc_state.specs.declared.state.State.{State}
+use Rattle.pc_state.proofs.LedgerLemmas.{counts-tick}
 use Rattle.pc_state.specs.State.{Knows, MayCome, entries_of, is_early, is_kept_back, is_out, is_spent, same_place, waiting_of}
 use Rattle.pc_state.proofs.OpenJobsLemmas.{AreOpen-along}
 use Rattle.pc_state.proofs.StateLemmas.{entries-free, entries-held, part-same}
@@ -67,6 +68,7 @@ pub record Ticks (given : Given) (h : List Event) (now : ℕ) (old state : State
   pub clock : state.clock ≡ now
   pub dispatched : state.dispatched ≡ old.dispatched
   pub last : state.last ≡ old.last
+  pub ledger : state.ledger ≡ old.ledger
 
 while-held : (given : Given) (h : List Event) (retries : List Retry) (p : ℕ) → is_held h p ≡ true
     → entries_while given h retries p
@@ -149,8 +151,9 @@ module _ (given : Given) (h : List Event) (s : State) (knows : Knows given h s) 
   pub ticks-start : (now : ℕ) (state : State) → state.setup.now ≡ s.setup.now
       → state.logs.now ≡ s.logs.now → state.parts.items ≡ s.parts.items → state.shards ≡ s.shards
       → state.retries ≡ s.retries → state.jobs ≡ s.jobs → state.clock ≡ now
-      → state.dispatched ≡ s.dispatched → state.last ≡ s.last → Ticks given h now s state
-  ticks-start now state setup logs items shards retries jobs clock dispatched last = record {
+      → state.dispatched ≡ s.dispatched → state.last ≡ s.last → state.ledger ≡ s.ledger
+      → Ticks given h now s state
+  ticks-start now state setup logs items shards retries jobs clock dispatched last ledger = record {
     setup = setup;
     logs = logs;
     items = items;
@@ -167,6 +170,7 @@ module _ (given : Given) (h : List Event) (s : State) (knows : Knows given h s) 
     clock = clock;
     dispatched = dispatched;
     last = last;
+    ledger = ledger;
   }
 
 -- ---- one of them
@@ -299,6 +303,7 @@ pub record Frees (old new : State) (w : Retry) (p u : ℕ) : Type 0 where
   pub clock : new.clock ≡ old.clock
   pub dispatched : new.dispatched ≡ old.dispatched
   pub last : new.last ≡ old.last
+  pub ledger : new.ledger ≡ old.ledger
 
 pub ticks-step : (given : Given) (h : List Event) (now : ℕ) (old state new : State) (w : Retry)
     (p u : ℕ) → Ticks given h now old state → due_retry now state.retries.retries ≡ Some w
@@ -332,6 +337,7 @@ ticks-step given h now old state new w p u ticks due frees =
       clock = frees.clock ∙ ticks.clock;
       dispatched = frees.dispatched ∙ ticks.dispatched;
       last = frees.last ∙ ticks.last;
+      ledger = frees.ledger ∙ ticks.ledger;
     }
 
 -- one less is left
@@ -484,6 +490,7 @@ module _ (given : Given) (h : List Event) (now : ℕ) (old state : State) (knows
     clock = ticks.clock;
     dispatched = ticks.dispatched ∙ knows.dispatched;
     last = ticks.last ∙ knows.last;
+    ledger = rw ticks.ledger (counts-tick given h now old.ledger knows.ledger);
   }
 
 -- none is due: the same ones are left
@@ -502,4 +509,5 @@ ticks-none given h now old state left ticks same room = record {
   clock = ticks.clock;
   dispatched = ticks.dispatched;
   last = ticks.last;
+  ledger = ticks.ledger;
 }

@@ -1,4 +1,5 @@
 pub mod OpenJobs
+pub mod Ledger
 pub mod Calls
 pub mod Polls
 pub mod State

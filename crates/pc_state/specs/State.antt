@@ -1,5 +1,5 @@
 -- Of which history a state is.
-use Rattle.std.specs.Prelude.{ℕ, ◌+◌, ◌≡◌, ◌≤◌, ◌<◌, Bool, not, ◌&&◌, ◌||◌, ◌==◌, nat_le, nat_lt, if◌then◌else◌, List, [], ◌∷◌, map, filter, length, Option, Some, None, is_some, ⊤, slice_index_or}
+use Rattle.std.specs.Prelude.{ℕ, ◌+◌, ◌≡◌, ◌≤◌, ◌<◌, Bool, not, ◌&&◌, ◌||◌, ◌==◌, nat_le, nat_lt, if◌then◌else◌, List, [], ◌∷◌, map, filter, length, Option, Some, None, is_some, option_map, ⊤, slice_index_or}
 use Rattle.std.specs.List.{IsDistinct, list_any}
 use Rattle.pc_model.specs.declared.limits.TheConstants.{MAX_EVENTS, MAX_PARTS, MAX_RECORDS}
 use Rattle.pc_model.specs.declared.event.Event.{Event}
@@ -21,6 +21,7 @@ use Rattle.pc_cursor.specs.Cursor.{not_below}
 use Rattle.pc_state.specs.declared.part.HeldPart.{HeldPart}
 use Rattle.pc_state.specs.declared.part.PartState.{PartState}
 use Rattle.pc_state.specs.declared.state.State.{State}
+use Rattle.pc_state.specs.Ledger.{Counts}
 use Rattle.pc_state.specs.OpenJobs.{AreOpen}
 
 -- whether a job of the part's present epoch is out at the offset
@@ -104,6 +105,7 @@ pub record Knows (given : Given) (h : List Event) (s : State) : Type 0 where
   pub clock : s.clock ≡ now_of h
   pub dispatched : s.dispatched ≡ dispatch_count h
   pub last : s.last ≡ last_part h
+  pub ledger : Counts given h s.ledger
 
 -- the event may come, and there is a place for it and for the results of the jobs that are out
 pub record MayCome (given : Given) (event : Event) (h : List Event) : Type 0 where
@@ -115,3 +117,11 @@ pub record AreReleased (old new : List PartState) : Type 0 where
   pub count : length new ≡ length old
   pub each : (p : ℕ) (d : PartState) → p < length old
       → slice_index_or new p d ≡ record { epoch = (slice_index_or old p d).epoch + 1; held = None }
+
+-- a held part with another size of its last commit
+abbrev pub sized : ℕ → HeldPart → HeldPart
+sized size held = record { window = held.window; next = held.next; size = Some size }
+
+-- a part with another size of its last commit, if it is held
+abbrev pub with_size : ℕ → PartState → PartState
+with_size size part = record { epoch = part.epoch; held = option_map (sized size) part.held }

@@ -45,6 +45,7 @@ impl<'a> State<'a> {
         release_all(&mut self.parts);
         self.shards.clear();
         self.retries.clear();
+        self.ledger.crash();
     }
 }
 

@@ -5,6 +5,7 @@
 mod dispatch;
 mod epochs;
 mod jobs;
+mod ledger;
 mod part;
 mod polls;
 mod results;
@@ -12,6 +13,7 @@ mod retries;
 mod state;
 
 pub use jobs::{OpenJob, OpenJobs};
+pub use ledger::{Ledger, PartLedger};
 pub use part::{HeldPart, PartState};
 pub use retries::ready_after;
 pub use state::State;

@@ -1,6 +1,7 @@
 //! What is kept of a part.
 
 ghost use Rattle.std.specs.Prelude.{◌≡◌, ℕ, None, IfOk, length, replicate};
+ghost use Rattle.pc_state.specs.State.{with_size};
 
 use pc_partition::PartitionState;
 use std::alloc::{AllocError, Global};
@@ -21,6 +22,17 @@ pub struct HeldPart {
     pub next: u64,
     /// The size of the last commit since the assignment.
     pub size: Option<u32>,
+}
+
+impl PartState {
+    /// A commit of this size was made of the part, if it is held, or failed.
+    pub(crate) fn note_size(&mut self, size: u32)
+        ensures { self.new ≡ with_size size self.old }
+    {
+        if let Some(held) = &mut self.held {
+            held.size = Some(size);
+        }
+    }
 }
 
 /// So many parts of which none was held.

@@ -64,6 +64,7 @@ impl<'a> State<'a> {
             → Knows given (Success ticket answer ∷ h) self.new }
     {
         self.jobs.remove(ticket);
+        self.ledger.succeed(part);
         self.shards.done(part, offset);
         if let Some(held) = &mut self.parts[part as usize].held {
             held.window.succeed(offset);

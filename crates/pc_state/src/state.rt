@@ -3,7 +3,7 @@
 
 ghost use Rattle.std.specs.Prelude.{◌≡◌, ◌+◌, ◌≤◌, ◌<◌, ◌^◌, ◌&&◌, ◌==◌, ℕ, List, [], ◌∷◌, Option, true, false, None, Some, IfOk, IfSome, length};
 ghost use Rattle.pc_model.specs.declared.event.Event.{Event};
-ghost use Rattle.pc_model.specs.declared.event.Event.TheVariants.{Assign, Commit as Committed, CommitFailed};
+ghost use Rattle.pc_model.specs.declared.event.Event.TheVariants.{Assign, Closed, Commit as Committed, CommitFailed, Done, Drain};
 ghost use Rattle.pc_model.specs.Given.{Given, has_log, records_of};
 ghost use Rattle.pc_model.specs.Jobs.{open_jobs};
 ghost use Rattle.pc_model.specs.Epochs.{epoch_of, is_held};
@@ -14,6 +14,7 @@ ghost use Rattle.pc_commit.specs.Resume.{resumed_marks};
 ghost use Rattle.pc_state.specs.State.{Knows, KnowsHeld, MayCome, PartKeeps};
 
 use crate::jobs::OpenJobs;
+use crate::ledger::Ledger;
 use crate::part::{self, HeldPart, PartState};
 use pc_broker_log::BrokerLogs;
 use pc_model::Setup;
@@ -38,6 +39,8 @@ pub struct State<'a> {
     pub dispatched: u64,
     /// The part of the last dispatch.
     pub last: Option<u32>,
+    /// What is kept of the history as a whole, and of what is stored of each part.
+    pub ledger: Ledger,
 }
 
 impl<'a> State<'a> {
@@ -63,6 +66,7 @@ impl<'a> State<'a> {
             clock: 0,
             dispatched: 0,
             last: None,
+            ledger: Ledger::new(alloc, logs.parts())?,
         })
     }
 
@@ -121,6 +125,7 @@ impl<'a> State<'a> {
             → MayCome given (Assign part (epoch_of h part + 1) position stored.map) h
             → Knows given (Assign part (epoch_of h part + 1) position stored.map ∷ h) self.new }
     {
+        self.ledger.assign(part, position);
         let state = &mut self.parts[part as usize];
         state.epoch += 1;
         state.held = Some(HeldPart {
@@ -131,19 +136,45 @@ impl<'a> State<'a> {
         state.epoch
     }
 
-    /// A commit of this size was made of a held part, or failed.
-    pub fn committed(&mut self, part: u32, size: u32)
+    /// A commit of this position and size was stored of a held part.
+    pub fn committed(&mut self, part: u32, position: u64, size: u32)
         requires { (given : Given) × (h : List Event) × Knows given h self.old
             × (is_held h part ≡ true) }
-        ensures stored { (given : Given) (h : List Event) (position : ℕ) (text : List ℕ)
+        ensures { (given : Given) (h : List Event) (text : List ℕ)
             → Knows given h self.old → MayCome given (Committed part position text size) h
             → Knows given (Committed part position text size ∷ h) self.new }
-        ensures failed { (given : Given) (h : List Event) (position : ℕ) (text : List ℕ)
+    {
+        self.ledger.commit(part, position);
+        self.parts[part as usize].note_size(size);
+    }
+
+    /// A commit of this size failed of a held part.
+    pub fn commit_failed(&mut self, part: u32, size: u32)
+        requires { (given : Given) × (h : List Event) × Knows given h self.old
+            × (is_held h part ≡ true) }
+        ensures { (given : Given) (h : List Event) (position : ℕ) (text : List ℕ)
             → Knows given h self.old → MayCome given (CommitFailed part position text size) h
             → Knows given (CommitFailed part position text size ∷ h) self.new }
     {
-        if let Some(held) = &mut self.parts[part as usize].held {
-            held.size = Some(size);
-        }
+        self.ledger.commit_failed(part);
+        self.parts[part as usize].note_size(size);
+    }
+
+    /// A drain begins. Takes no memory.
+    pub fn drain(&mut self)
+        ensures { (given : Given) (h : List Event) → Knows given h self.old → MayCome given Drain h
+            → Knows given (Drain ∷ h) self.new }
+    {
+        self.ledger.drain();
+    }
+
+    /// The history has ended. Takes no memory.
+    pub fn end(&mut self)
+        ensures done { (given : Given) (h : List Event) → Knows given h self.old
+            → MayCome given Done h → Knows given (Done ∷ h) self.new }
+        ensures closed { (given : Given) (h : List Event) → Knows given h self.old
+            → MayCome given Closed h → Knows given (Closed ∷ h) self.new }
+    {
+        self.ledger.end();
     }
 }

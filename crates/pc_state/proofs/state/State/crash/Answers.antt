@@ -25,6 +25,7 @@ returns c = λ given h knows may. knows-crashed given h c.args.self.now
       clock = c.args.self.now.clock;
       dispatched = c.args.self.now.dispatched;
       last = c.args.self.now.last;
+      ledger = c.crash.new.self;
     })
     knows
     (record {

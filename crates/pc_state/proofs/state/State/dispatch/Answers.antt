@@ -87,6 +87,7 @@ returns-clause-dispatched g c = λ given h knows next may. knows-dispatch given 
       clock = refl;
       dispatched = refl;
       last = refl;
+      ledger = refl;
     })
     c.index.ensures (sym (ap (option_map plain) c.in-Some.is) ∙ c.entry.ensures)
     (room (length (open_jobs h)) c.len.result c.reserve.new.self.room (c.len.ensures h knows.jobs)

@@ -54,6 +54,7 @@ returns-then-is_spent c = λ given h job code knows kept part offset epoch held 
       clock = c.args.self.now.clock;
       dispatched = c.args.self.now.dispatched;
       last = c.args.self.now.last;
+      ledger = c.args.self.now.ledger;
     }) true (is_early (Failure c.args.ticket code c.args.ready_at ∷ h) c.args.part c.args.offset)
     knows work
     (record {
@@ -69,6 +70,7 @@ returns-then-is_spent c = λ given h job code knows kept part offset epoch held 
       clock = refl;
       dispatched = refl;
       last = refl;
+      ledger = refl;
     })
     (sym c.if-is_spent.true ∙ c.is_spent.ensures ∙ spent-then given h c.args.ticket c.args.part
     c.args.offset code c.args.ready_at c.args.self.now knows work es c.fail.ensures.failed)
@@ -90,6 +92,7 @@ returns-then-self-ready_at c = λ given h job code knows kept part offset epoch 
       clock = c.args.self.now.clock;
       dispatched = c.args.self.now.dispatched;
       last = c.args.self.now.last;
+      ledger = c.args.self.now.ledger;
     }) false true knows work
     (record {
       setup = refl;
@@ -104,6 +107,7 @@ returns-then-self-ready_at c = λ given h job code knows kept part offset epoch 
       clock = refl;
       dispatched = refl;
       last = refl;
+      ledger = refl;
     })
     (sym c.if-is_spent.false ∙ c.is_spent.ensures ∙ spent-then given h c.args.ticket c.args.part
     c.args.offset code c.args.ready_at c.args.self.now knows work es c.fail.ensures.failed)
@@ -128,6 +132,7 @@ returns-else-self-ready_at c = λ given h job code knows kept part offset epoch 
       clock = c.args.self.now.clock;
       dispatched = c.args.self.now.dispatched;
       last = c.args.self.now.last;
+      ledger = c.args.self.now.ledger;
     }) false false knows work
     (record {
       setup = refl;
@@ -142,6 +147,7 @@ returns-else-self-ready_at c = λ given h job code knows kept part offset epoch 
       clock = refl;
       dispatched = refl;
       last = refl;
+      ledger = refl;
     })
     (sym c.if-is_spent.false ∙ c.is_spent.ensures ∙ spent-then given h c.args.ticket c.args.part
     c.args.offset code c.args.ready_at c.args.self.now knows work es c.fail.ensures.failed)

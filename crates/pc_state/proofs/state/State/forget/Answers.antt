@@ -15,6 +15,7 @@ returns c = λ given h knows may. knows-stale given h c.args.ticket c.args.self.
       clock = c.args.self.now.clock;
       dispatched = c.args.self.now.dispatched;
       last = c.args.self.now.last;
+      ledger = c.args.self.now.ledger;
     })
     knows may (record {
       setup = refl;
@@ -25,5 +26,6 @@ returns c = λ given h knows may. knows-stale given h c.args.ticket c.args.self.
       clock = refl;
       dispatched = refl;
       last = refl;
+      ledger = refl;
     })
     (c.remove.ensures h (Stale c.args.ticket) knows.jobs)

@@ -39,6 +39,7 @@ returns-clause-lost c = λ given h knows held.
       clock = c.args.self.now.clock;
       dispatched = c.args.self.now.dispatched;
       last = c.args.self.now.last;
+      ledger = c.args.self.now.ledger;
     })
     c.args.part part knows
     (record {
@@ -54,6 +55,7 @@ returns-clause-lost c = λ given h knows held.
       clock = refl;
       dispatched = refl;
       last = refl;
+      ledger = refl;
     })
     held (ap (λ (e : ℕ). e + 1) (returns-clause-epoch c given h knows held)) refl
 
@@ -71,6 +73,7 @@ returns-clause-revoked c = λ given h knows held.
       clock = c.args.self.now.clock;
       dispatched = c.args.self.now.dispatched;
       last = c.args.self.now.last;
+      ledger = c.args.self.now.ledger;
     })
     c.args.part part knows
     (record {
@@ -86,5 +89,6 @@ returns-clause-revoked c = λ given h knows held.
       clock = refl;
       dispatched = refl;
       last = refl;
+      ledger = refl;
     })
     held (ap (λ (e : ℕ). e + 1) (returns-clause-epoch c given h knows held)) refl

@@ -63,6 +63,7 @@ returns-in-Some c = λ given h job answer knows kept part offset epoch held may.
       clock = c.args.self.now.clock;
       dispatched = c.args.self.now.dispatched;
       last = c.args.self.now.last;
+      ledger = c.succeed.new.self;
     })
     c.index_mut.result.now state c.in-Some.held next knows may work
     (polled-below given h c.args.part at.entry at.polled)

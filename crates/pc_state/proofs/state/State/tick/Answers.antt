@@ -39,6 +39,7 @@ loop-part-preserved c = λ given h knows may.
       clock = c.loop-part.self.clock;
       dispatched = c.loop-part.self.dispatched;
       last = c.loop-part.self.last;
+      ledger = c.loop-part.self.ledger;
     }) one.0 c.in-Some.part c.in-Some.offset
     (c.loop-part.invariant given h knows may) one.1 (record {
       part = one.2;
@@ -55,6 +56,7 @@ loop-part-preserved c = λ given h knows may.
       clock = refl;
       dispatched = refl;
       last = refl;
+      ledger = refl;
     })
 
 pub returns : goal.returns
