@@ -95,7 +95,7 @@ impl<'a, L: Link> Engine<'a, L, RuleTask> {
 }
 
 impl<'a, L: Link, T: Task> Engine<'a, L, T> {
-    ghost use Rattle.std.specs.Prelude.{◌≡◌, ◌≤◌, ◌<◌, ◌+◌, ◌^◌, ◌⊎◌, ◌↔◌, ◌&&◌, ◌==◌, IsTrue, ℕ, true, false, [], IfOk, IfErr, IsOk, OnOk, OnErr, Err, Ok, Some, None, Result, if◌then◌else◌, length};
+    ghost use Rattle.std.specs.Prelude.{◌≡◌, ◌≤◌, ◌<◌, ◌+◌, ◌^◌, ◌⊎◌, ◌↔◌, ◌&&◌, ◌==◌, IsTrue, ℕ, true, false, [], IfOk, IfErr, IfSome, IsOk, OnOk, OnErr, Err, Ok, Some, None, Result, if◌then◌else◌, length};
     ghost use Rattle.pc_model.specs.declared.commit.Commit.{Commit};
     ghost use Rattle.pc_model.specs.Known.{commit_of};
     ghost use Rattle.pc_offset_client.specs.declared.fault.ClientFault.{ClientFault};

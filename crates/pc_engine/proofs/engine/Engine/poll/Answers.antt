@@ -167,22 +167,23 @@ returns-clause-keeps g c =
     (c.in_ok-records.ensures.next (given_to c.self.inside.state c.self.inside.journal.events
     (g.L.Link.is_told c.self.inside.client.link) (g.T.Task.outcome c.self.inside.task.now) (kept_for (g.L.Link.store c.self.inside.client.link)))
     c.self.inside.journal.events c.self.invariant.knows held) in
-    polled-given c.self.inside.state c.self.inside.journal.events
-    (g.L.Link.is_told c.self.inside.client.link) (g.T.Task.outcome c.self.inside.task.now) (kept_for (g.L.Link.store c.self.inside.client.link))
-    c.self.inside.journal.room c.self.invariant c.args.part c.args.max c.in-Some.first inner
-    c.requires.some left free c.deref.result.now next c.poll.new.self c.reserve.new.self.events
-    c.push.new.self.events c.reserve.new.self.room c.push.new.self.room c.outstanding.result
-    c.len-count.result c.last_of-last.result _ room_left
-    (let n = ap length c.deref.ensures.value in let m = c.in_ok-records.records.ok.0 in record {
-      given = let k = c.len-count.ensures in omega (arith, n, m, k))
-    (λ o. c.in_ok-poll.ensures.polled (given_to c.self.inside.state c.self.inside.journal.events
-    (g.L.Link.is_told c.self.inside.client.link) (g.T.Task.outcome c.self.inside.task.now) (kept_for (g.L.Link.store c.self.inside.client.link)))
-    c.self.inside.journal.events o c.self.invariant.knows held (are-next (given_to c.self.inside.state c.self.inside.journal.events
-    (g.L.Link.is_told c.self.inside.client.link) (g.T.Task.outcome c.self.inside.task.now) (kept_for (g.L.Link.store c.self.inside.client.link)))
-    c.self.inside.journal.events c.args.part c.self.invariant.knows.legal c.args.max c.deref.result.now next))
-    (c.last_of-last.ensures _ next2) c.in_ok-reserve.ensures.events c.push.ensures.events
-    (c.outstanding.ensures _ _ c.self.invariant.knows) c.in_ok-reserve.ensures.room c.push.ensures.room
-    ∙ ap (λ v. given_of g.T.Task.outcome v) c.self.view_is;
+    record {
+      given = polled-given c.self.inside.state c.self.inside.journal.events
+          (g.L.Link.is_told c.self.inside.client.link) (g.T.Task.outcome c.self.inside.task.now) (kept_for (g.L.Link.store c.self.inside.client.link))
+          c.self.inside.journal.room c.self.invariant c.args.part c.args.max c.in-Some.first inner
+          c.requires.some left free c.deref.result.now next c.poll.new.self c.reserve.new.self.events
+          c.push.new.self.events c.reserve.new.self.room c.push.new.self.room c.outstanding.result
+          c.len-count.result c.last_of-last.result _ room_left
+          (let n = ap length c.deref.ensures.value in let m = c.in_ok-records.records.ok.0 in
+          let k = c.len-count.ensures in omega (arith, n, m, k))
+          (λ o. c.in_ok-poll.ensures.polled (given_to c.self.inside.state c.self.inside.journal.events
+          (g.L.Link.is_told c.self.inside.client.link) (g.T.Task.outcome c.self.inside.task.now) (kept_for (g.L.Link.store c.self.inside.client.link)))
+          c.self.inside.journal.events o c.self.invariant.knows held (are-next (given_to c.self.inside.state c.self.inside.journal.events
+          (g.L.Link.is_told c.self.inside.client.link) (g.T.Task.outcome c.self.inside.task.now) (kept_for (g.L.Link.store c.self.inside.client.link)))
+          c.self.inside.journal.events c.args.part c.self.invariant.knows.legal c.args.max c.deref.result.now next))
+          (c.last_of-last.ensures _ next2) c.in_ok-reserve.ensures.events c.push.ensures.events
+          (c.outstanding.ensures _ _ c.self.invariant.knows) c.in_ok-reserve.ensures.room c.push.ensures.room
+          ∙ ap (λ v. given_of g.T.Task.outcome v) c.self.view_is;
       task = ap (λ v. v.task) c.self.view_is;
       link = ap (λ v. v.link) c.self.view_is;
     }
