@@ -23,3 +23,4 @@ pub mod FailureLemmas
 pub mod FailureTests
 pub mod DueLemmas
 pub mod TickLemmas
+pub mod TakeLemmas

@@ -13,5 +13,6 @@ mod state;
 
 pub use jobs::{OpenJob, OpenJobs};
 pub use part::{HeldPart, PartState};
+pub use polls::Taken;
 pub use retries::ready_after;
 pub use state::State;

@@ -45,7 +45,7 @@ pub returns-in-Some : goal.returns-in-Some
 returns-in-Some c = λ given h job answer knows kept part offset epoch held may.
     let next : HeldPart = record {
       window = c.succeed.new.self;
-      next = c.in-Some.held.next;
+      rest = c.in-Some.held.rest;
       size = c.in-Some.held.size;
     } in
     let state : PartState = record { epoch = c.index_mut.result.now.epoch; held = Some next } in
