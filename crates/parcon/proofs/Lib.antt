@@ -1,14 +1,5 @@
-mod LogFaultLemmas
+mod SetupLemmas
 mod WrittenLemmas
-mod WordLooks
-mod WordSteps
-mod WordsLemmas
-mod ListLemmas
-mod ReadingLemmas
-mod PlanLemmas
-mod HandLemmas
-mod CallLemmas
-mod PlayLemmas
 mod StartLemmas
 mod PromiseLemmas
 mod ToldLemmas

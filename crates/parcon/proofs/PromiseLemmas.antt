@@ -15,25 +15,28 @@ use Rattle.pc_laws.specs.Lists.{In}
 use Rattle.pc_laws.proofs.SoundLaw.{is_sound}
 use Rattle.pc_laws.proofs.OrderlyLaw.{is_orderly}
 use Rattle.pc_script.specs.declared.play.PlayLine.{PlayLine}
-use Rattle.parcon.specs.declared.remark.Remark.{Remark}
-use Rattle.parcon.specs.declared.status.Status.{Status}
-use Rattle.parcon.specs.declared.status.Status.TheVariants.{LinkFault, Whole, NoMemory}
-use Rattle.parcon.specs.Command.{files_of}
-use Rattle.parcon.specs.Reading.{◌>>=◌, FileTexts, IsFromFiles}
-use Rattle.parcon.specs.Plan.{Planned, all_rise, logs_of, logs_read, plan_behind, plan_to_play}
+use Rattle.pc_play.specs.declared.remark.Remark.{Remark}
+use Rattle.pc_inputs.specs.declared.status.Status.{Status}
+use Rattle.pc_inputs.specs.declared.status.Status.TheVariants.{LinkFault, Whole, NoMemory}
+use Rattle.pc_inputs.specs.Command.{files_of}
+use Rattle.pc_inputs.specs.Reading.{◌>>=◌, FileTexts, IsFromFiles}
+use Rattle.pc_inputs.specs.Plan.{Planned, all_rise, logs_of, logs_read, plan_behind, plan_to_play}
 use Rattle.parcon.specs.Starts.{Begins, Sends, Sent, SendsStarts}
 use Rattle.pc_model.specs.declared.outcome.Start.{Start}
 use Rattle.pc_offset_client.specs.declared.fault.ClientFault.{ClientFault}
 use Rattle.pc_offset_client.specs.declared.fault.ClientFault.TheVariants as client
-use Rattle.parcon.specs.Play.{IsAborted, Moment, IsPlayed, Play, PlaysTo, start}
-use Rattle.parcon.specs.Ending.{client_status, fault_line, output_of, play_text, text_with, wanted_status}
+use Rattle.pc_play.specs.Play.{IsAborted, Moment, IsPlayed, Play, PlaysTo, start}
+use Rattle.pc_inputs.specs.Status.{client_status, fault_line}
+use Rattle.parcon.specs.Ending.{output_of, play_text, text_with, wanted_status}
 use Rattle.parcon.specs.Written.{HasFront, IsWritten, with_bytes}
-use Rattle.parcon.specs.Promise.{Ends, FilesSeen, IsCall, IsCarriedOut, IsKept, Outside, Plays, given_of, link_at, with_link}
-use Rattle.parcon.proofs.CallLemmas.{aborted-same}
+use Rattle.parcon.specs.Promise.{Ends, FilesSeen, IsCall, IsCarriedOut, Outside, Plays, given_of, link_at, with_link}
+use Rattle.pc_play.specs.Kept.{IsKept}
+use Rattle.pc_play.proofs.NoLine.{aborted-same}
 use Rattle.parcon.proofs.WrittenLemmas.{front-none, unchanged, with_bytes-none}
-use Rattle.parcon.proofs.ReadingLemmas.{any-answers, status-is}
-use Rattle.parcon.proofs.PlanLemmas.{files-logs, logs-read-are, logs-rise}
-use Rattle.parcon.proofs.PlayLemmas.{default_setup, kept-at-start, plays-nowhere}
+use Rattle.pc_inputs.proofs.ReadingLemmas.{any-answers, status-is}
+use Rattle.pc_inputs.proofs.PlanLemmas.{files-logs, logs-read-are, logs-rise}
+use Rattle.parcon.proofs.SetupLemmas.{default_setup}
+use Rattle.pc_play.proofs.NoLine.{kept-at-start, plays-nowhere}
 
 whole-no-line : fault_line Whole ≡ []
 unfolding fault_line

@@ -16,7 +16,7 @@ use Rattle.pc_model.specs.declared.setup.SetupField.{SetupField}
 use Rattle.pc_model.specs.declared.setup.SetupField.TheVariants.{StartPart, StartPosition, StartMap, Starts}
 use Rattle.pc_offset_client.specs.declared.fault.ClientFault.{ClientFault}
 use Rattle.pc_offset_client.specs.declared.fault.ClientFault.TheVariants as client
-use Rattle.parcon.specs.Play.{IsAborted, Moment}
+use Rattle.pc_play.specs.Play.{IsAborted, Moment}
 use Rattle.parcon.specs.Starts.{IsSendable, Sends, SendsStart, SendsStarts, Sent}
 
 -- ---- starts in range

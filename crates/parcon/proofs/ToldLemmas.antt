@@ -25,23 +25,23 @@ use Rattle.pc_script.specs.declared.play.PlayLine.{PlayLine}
 use Rattle.pc_task.specs.Jobs.{PlainJob}
 use Rattle.pc_engine.specs.declared.fault.EngineFault.{EngineFault}
 use Rattle.pc_engine.specs.Effect.{assign_after, assign_refusal, commit_after, commit_refusal, revoke_after, revoke_refusal}
-use Rattle.parcon.specs.declared.status.Status.{Status}
-use Rattle.parcon.specs.declared.status.Status.TheVariants as status
-use Rattle.parcon.specs.Command.{Command, PlayFiles, command_of, files_in, files_of}
-use Rattle.parcon.specs.Command.Command.{Play as PlayOf}
-use Rattle.parcon.specs.Reading.{◌>>=◌, AreAnswers, FileRead, IsAnswer, IsConfigAnswer, command_answered, ReadAnswer, Reads}
-use Rattle.parcon.specs.Reading.ReadAnswer.{Bytes, Failed, TooLong}
-use Rattle.parcon.specs.Plan.{Planned, logs_read, plan_behind, plan_to_play}
+use Rattle.pc_inputs.specs.declared.status.Status.{Status}
+use Rattle.pc_inputs.specs.declared.status.Status.TheVariants as status
+use Rattle.pc_inputs.specs.Command.{Command, PlayFiles, command_of, files_in, files_of}
+use Rattle.pc_inputs.specs.Command.Command.{Play as PlayOf}
+use Rattle.pc_inputs.specs.Reading.{◌>>=◌, AreAnswers, FileRead, IsAnswer, IsConfigAnswer, command_answered, ReadAnswer, Reads}
+use Rattle.pc_inputs.specs.Reading.ReadAnswer.{Bytes, Failed, TooLong}
+use Rattle.pc_inputs.specs.Plan.{Planned, logs_read, plan_behind, plan_to_play}
 use Rattle.parcon.specs.Starts.{SendsStart, SendsStarts, Sent, commit_at}
 use Rattle.pc_model.specs.declared.outcome.Start.{Start}
 use Rattle.pc_model.specs.declared.setup.Setup.{Setup}
-use Rattle.parcon.specs.Play.{Asked, Asks, Entry, Fetches, LineStep, Moment, Play, PlaysTo, Stores, Trace, Unless, after_line, after_step, call_notice, done_by, start, step_of}
+use Rattle.pc_play.specs.Play.{Asked, Asks, Entry, Fetches, LineStep, Moment, Play, PlaysTo, Stores, Trace, Unless, after_line, after_step, call_notice, done_by, start, step_of}
 use Rattle.parcon.specs.Ending.{lines_in, output_of, wanted_status}
 use Rattle.parcon.specs.Written.{with_bytes}
 use Rattle.parcon.specs.Promise.{CarriesOut, Ends, FilesSeen, IsCall, IsCarriedOut, Outside, given_of, lines_after, link_at, starts_in, with_link}
 use Rattle.parcon.specs.Told.{AreTold, EndsAlike, IsFaultless, IsTold, IsToldCall, IsToldPlay, Serves, end_told, lines_told, told_logs, told_plan, told_starts, ToldPlay, answer_told, asks_link, failure_count, fetched_from, has_failed, is_accepted, store_told, store_unless, store_with, stored_by, told_answer, told_config, IsConfigTold, told_play, told_reads}
-use Rattle.parcon.proofs.ReadingLemmas.{risen-earlier, risen-later}
-use Rattle.parcon.proofs.PlayLemmas.{same-settings}
+use Rattle.pc_inputs.proofs.ReadingLemmas.{risen-earlier, risen-later}
+use Rattle.parcon.proofs.SetupLemmas.{same-settings}
 
 cond-true : {A : Type 0} (b : Bool) (x y : A) → b ≡ true → cond b x y ≡ x
 cond-true b x y is = rw is refl

@@ -9,10 +9,12 @@ use Rattle.pc_model.specs.declared.event.Event.{Event}
 use Rattle.pc_print.specs.Line.{line_of, text_of}
 use Rattle.pc_world.specs.World.{HasRisen}
 use Rattle.pc_world.specs.declared.sink.SinkFailed.{SinkFailed}
-use Rattle.parcon.specs.declared.remark.Remark.{Remark}
-use Rattle.parcon.specs.Ending.{remark_line, text_with, fault_line}
-use Rattle.parcon.specs.declared.status.Status.{Status}
-use Rattle.parcon.specs.declared.status.Status.TheVariants.{SinkFault, NoMemory}
+use Rattle.pc_play.specs.declared.remark.Remark.{Remark}
+use Rattle.parcon.specs.Remark.{remark_line}
+use Rattle.parcon.specs.Ending.{text_with}
+use Rattle.pc_inputs.specs.Status.{fault_line}
+use Rattle.pc_inputs.specs.declared.status.Status.{Status}
+use Rattle.pc_inputs.specs.declared.status.Status.TheVariants.{SinkFault, NoMemory}
 use Rattle.parcon.specs.declared.output.OutputFault.{OutputFault}
 use Rattle.parcon.specs.declared.output.OutputFault.TheVariants as output
 use Rattle.parcon.specs.Written.{with_bytes, HasFront, IsOnItsWay, IsWritten, status_after}

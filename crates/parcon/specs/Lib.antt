@@ -1,13 +1,5 @@
-pub mod Command
-pub mod Words
-pub mod Reading
-pub mod Plan
-pub mod Hand
-pub mod Play
-pub mod LogFault
-pub mod ConfigFault
-pub mod Configuration
 pub mod Starts
+pub mod Remark
 pub mod Ending
 pub mod Written
 pub mod Promise

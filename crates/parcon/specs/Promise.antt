@@ -14,13 +14,13 @@ use Rattle.pc_offset_client.specs.Client.{kept_for}
 use Rattle.pc_script.specs.declared.play.PlayLine.{PlayLine}
 use Rattle.pc_engine.specs.Effect.{StoresOnly}
 use Rattle.pc_engine.specs.Engine.{given_by}
-use Rattle.parcon.specs.declared.status.Status.{Status}
-use Rattle.parcon.specs.declared.status.Status.TheVariants.{LinkFault, NoMemory}
-use Rattle.parcon.specs.Command.{files_of}
-use Rattle.parcon.specs.Reading.{AreAnswers, Reads}
-use Rattle.parcon.specs.Plan.{Planned, logs_read, plan_to_play}
+use Rattle.pc_inputs.specs.declared.status.Status.{Status}
+use Rattle.pc_inputs.specs.declared.status.Status.TheVariants.{LinkFault, NoMemory}
+use Rattle.pc_inputs.specs.Command.{files_of}
+use Rattle.pc_inputs.specs.Reading.{AreAnswers, Reads}
+use Rattle.pc_inputs.specs.Plan.{Planned, logs_read, plan_to_play}
 use Rattle.parcon.specs.Starts.{Begins, Sent}
-use Rattle.parcon.specs.Play.{IsAborted, Moment, Play, PlaysTo, start}
+use Rattle.pc_play.specs.Play.{IsAborted, Moment, Play, PlaysTo, start}
 use Rattle.parcon.specs.Ending.{lines_in, output_of, wanted_status}
 use Rattle.parcon.specs.Written.{IsWritten}
 
@@ -131,11 +131,3 @@ pub record IsCall (words : List (List ℕ)) (files files' : FilesSeen) (before a
   pub answers : AreAnswers (files_of words) files.contents files.faults files'.faults reads
   pub carried_out : IsCarriedOut (logs_read reads.logs) (plan_to_play words reads) before after
       status history
-
--- a history that is legal, and a link whose broker, where that is told, stores what it may: for a
--- part with a log one of the commits that may be stored, and else what it stored
-pub record IsKept (given : Given) (before after : Broker) (h : List Event) : Type 0 where
-  pub legal : IsLegal given h
-  pub stored : given.is_told ≡ true → (p : ℕ) → has_log given p ≡ true
-      → In (kept_for after p) (may_store given h p)
-  pub others : given.is_told ≡ true → StoresOnly (has_log given) before after

@@ -5,9 +5,9 @@ use Rattle.pc_model.specs.declared.outcome.Start.{Start}
 use Rattle.pc_offset_client.specs.declared.fault.ClientFault.{ClientFault}
 use Rattle.pc_offset_client.specs.declared.fault.ClientFault.TheVariants.{NoMemory as Forgot}
 use Rattle.pc_engine.specs.Effect.{IsStored}
-use Rattle.parcon.specs.declared.status.Status.{Status}
-use Rattle.parcon.specs.declared.status.Status.TheVariants.{NoMemory}
-use Rattle.parcon.specs.Play.{IsAborted, Moment}
+use Rattle.pc_inputs.specs.declared.status.Status.{Status}
+use Rattle.pc_inputs.specs.declared.status.Status.TheVariants.{NoMemory}
+use Rattle.pc_play.specs.Play.{IsAborted, Moment}
 
 -- what the client answered to a commit
 abbrev pub Sent : Type 0

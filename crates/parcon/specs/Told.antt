@@ -21,14 +21,14 @@ use Rattle.pc_engine.specs.Effect.{assign_refusal, commit_refusal, revoke_refusa
 use Rattle.pc_script.specs.declared.play.PlayAct.{PlayAct}
 use Rattle.pc_script.specs.declared.play.PlayAct.TheVariants.{Assign, Commit, Revoke}
 use Rattle.pc_script.specs.declared.play.PlayLine.{PlayLine}
-use Rattle.parcon.specs.declared.status.Status.{Status}
-use Rattle.parcon.specs.Command.{Command, files_of}
-use Rattle.parcon.specs.Command.Command.{Play as PlayOf}
-use Rattle.parcon.specs.Reading.{ReadAnswer, Reads}
-use Rattle.parcon.specs.Reading.ReadAnswer.{Bytes, TooLong}
-use Rattle.parcon.specs.Plan.{Planned, logs_read, plan_to_play}
+use Rattle.pc_inputs.specs.declared.status.Status.{Status}
+use Rattle.pc_inputs.specs.Command.{Command, files_of}
+use Rattle.pc_inputs.specs.Command.Command.{Play as PlayOf}
+use Rattle.pc_inputs.specs.Reading.{ReadAnswer, Reads}
+use Rattle.pc_inputs.specs.Reading.ReadAnswer.{Bytes, TooLong}
+use Rattle.pc_inputs.specs.Plan.{Planned, logs_read, plan_to_play}
 use Rattle.parcon.specs.Starts.{Sent, commit_at}
-use Rattle.parcon.specs.Play.{Asked, Entry, Play, after_line, start}
+use Rattle.pc_play.specs.Play.{Asked, Entry, Play, after_line, start}
 use Rattle.parcon.specs.Ending.{lines_in, output_of, wanted_status}
 use Rattle.parcon.specs.Written.{with_bytes}
 use Rattle.parcon.specs.Promise.{FilesSeen, Outside, given_of, lines_after, starts_in}

@@ -1,8 +1,8 @@
 -- What stands in a sink after it was written.
 use Rattle.std.specs.Prelude.{ℕ, ◌≡◌, ◌⊎◌, List, ◌++◌, Option, option_map, Result, Ok, Err}
 use Rattle.pc_world.specs.World.{HasRisen}
-use Rattle.parcon.specs.declared.status.Status.{Status}
-use Rattle.parcon.specs.declared.status.Status.TheVariants.{SinkFault, NoMemory}
+use Rattle.pc_inputs.specs.declared.status.Status.{Status}
+use Rattle.pc_inputs.specs.declared.status.Status.TheVariants.{SinkFault, NoMemory}
 use Rattle.parcon.specs.declared.output.OutputFault.{OutputFault}
 use Rattle.parcon.specs.declared.output.OutputFault.TheVariants as output
 

@@ -8,10 +8,10 @@ ghost use Rattle.pc_model.specs.Broker.{Broker};
 ghost use Rattle.pc_model.specs.Given.{Given, no_commit};
 ghost use Rattle.pc_offset_client.specs.Client.{kept_for, with_commit};
 ghost use Rattle.pc_script.specs.declared.play.PlayLine.{PlayLine};
-ghost use Rattle.parcon.specs.declared.status.Status.{Status};
-ghost use Rattle.parcon.specs.declared.status.Status.TheVariants.{NoMemory};
-ghost use Rattle.parcon.specs.Command.{command_of};
-ghost use Rattle.parcon.specs.Play.{Entry, Moment, Play, Trace};
+ghost use Rattle.pc_inputs.specs.declared.status.Status.{Status};
+ghost use Rattle.pc_inputs.specs.declared.status.Status.TheVariants.{NoMemory};
+ghost use Rattle.pc_inputs.specs.Command.{command_of};
+ghost use Rattle.pc_play.specs.Play.{Entry, Moment, Play, Trace};
 ghost use Rattle.parcon.specs.Promise.{FilesSeen, IsCall, Outside};
 ghost use Rattle.parcon.specs.Told.{AreTold, EndsAlike, IsFaultless, IsToldCall, Serves, failure_count, fetched_from, store_with, stored_by};
 

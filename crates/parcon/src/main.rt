@@ -3,40 +3,24 @@
 //! `offline` is the whole program but for the outside; its clauses are the promise.
 #![tactic(auto)]
 
-mod calls;
-mod command;
-mod config_fault;
-mod configuration;
-mod fault_line;
-mod hand;
 mod laws;
-mod log_fault;
 mod offline;
 mod output;
-mod plan;
-mod play;
 mod play_setup;
-mod reading;
 mod remark;
 mod starts;
-mod status;
-mod words;
 
 use offline::offline;
+use pc_inputs::NO_MEMORY;
 use pc_model::limits::MAX_PARTS;
 use pc_offset_client::TOPIC;
 use pc_offset_store::OffsetBroker;
 use pc_world::{DiskFiles, StdSink};
-use status::NO_MEMORY;
 use std::alloc::AllocError;
 use std::env;
 use std::io::ErrorKind;
 use std::process::ExitCode;
 
-#[cfg(test)]
-mod setup_tests;
-#[cfg(test)]
-mod start_tests;
 #[cfg(test)]
 mod tests;
 

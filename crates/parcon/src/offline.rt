@@ -1,15 +1,13 @@
 //! The top call: a whole play, but for the outside, which it is given.
 
 ghost use Rattle.std.specs.Prelude.{◌≡◌, ◌≤◌, Ok, true, length, map, string_bytes};
-ghost use Rattle.parcon.specs.Reading.{text_of, texts_of};
-ghost use Rattle.parcon.specs.Plan.{all_rise, logs_of, plan_behind, planned};
+ghost use Rattle.pc_inputs.specs.Reading.{text_of, texts_of};
+ghost use Rattle.pc_inputs.specs.Plan.{all_rise, logs_of, plan_behind, planned};
 ghost use Rattle.parcon.specs.Promise.{IsCall, IsCarriedOut};
 
-use crate::plan::{Plan, plan_of};
 use crate::play_setup::{Ended, play_setup, unplayed};
-use crate::reading::{Texts, read_files};
 use crate::starts::{Sent, send_starts};
-use crate::status::Status;
+use pc_inputs::{Plan, Status, Texts, plan_of, read_files};
 use pc_model::limits::MAX_PARTS;
 use pc_world::{Files, Link, Sink};
 use std::alloc::Global;

@@ -3,16 +3,17 @@
 ghost use Rattle.std.specs.Prelude.{◌≡◌, Ok, [], MatchResult};
 ghost use Rattle.pc_offset_client.specs.Client.{kept_for};
 ghost use Rattle.pc_engine.specs.Engine.{given_by};
-ghost use Rattle.parcon.specs.declared.status.Status.TheVariants.{NoMemory, Whole};
-ghost use Rattle.parcon.specs.Ending.{fault_line, text_with};
+ghost use Rattle.pc_inputs.specs.declared.status.Status.TheVariants.{NoMemory, Whole};
+ghost use Rattle.pc_inputs.specs.Status.{fault_line};
+ghost use Rattle.parcon.specs.Ending.{text_with};
 ghost use Rattle.parcon.specs.Written.{IsWritten};
 ghost use Rattle.parcon.specs.Promise.{Plays};
 
 use crate::output::{tell_fault, tell_play};
-use crate::play::{Played, play};
-use crate::status::Status;
 use pc_broker_log::BrokerLogs;
+use pc_inputs::Status;
 use pc_model::{Journal, Setup};
+use pc_play::{Played, play};
 use pc_script::PlayScript;
 use pc_world::{Link, Sink};
 use std::alloc::Global;

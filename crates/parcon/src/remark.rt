@@ -1,40 +1,20 @@
-//! Remarks: what a play says of the lines whose calls were refused or added no event.
+//! The lines of remarks.
 
 ghost use Rattle.std.specs.Prelude.{◌≡◌, ◌++◌, ◌∷◌, OnOk, OnErr, codes};
-ghost use Rattle.parcon.specs.Ending.{client_words, map_words, refusal_words, remark_line, words_at};
+ghost use Rattle.pc_inputs.specs.Status.{client_words};
+ghost use Rattle.parcon.specs.Remark.{map_words, refusal_words, remark_line, words_at};
 
 use pc_engine::EngineFault;
 use pc_model::MapFault;
 use pc_offset_client::ClientFault;
+use pc_play::{Notice, Remark};
 use pc_print::Word::{Label, Name, Number, Signed};
 use pc_print::put_line;
 use std::alloc::AllocError;
 
-/// What is said of a script's line.
-#[derive(Clone, Copy, Debug, PartialEq, Eq)]
-pub(crate) enum Notice {
-    /// The engine refused the call.
-    Refused(EngineFault),
-    /// There was no job to take.
-    NoJob,
-    /// There was no record to poll.
-    AtEnd,
-    /// The time of a tick is not after that of the last one.
-    OldTime,
-    /// No job with the line's ticket is in hand.
-    Stranger,
-}
-
-/// What is said of the line of a script.
-#[derive(Clone, Copy, Debug, PartialEq, Eq)]
-pub(crate) struct Remark {
-    /// The line's number in the script, from 1 on.
-    pub(crate) line: u64,
-    pub(crate) notice: Notice,
-}
-
-/// Appends the line of a remark, with its line feed. Where memory is wanting `out` is as before.
-#[tactic(auto, unfolding(crate::specs::Ending::remark_line))]
+/// Appends the line of a remark, with its line feed. When out of memory `out` stays as
+/// it was.
+#[tactic(auto, unfolding(crate::specs::Remark::remark_line))]
 pub(crate) fn put_remark(out: &mut Vec<u8>, remark: &Remark) -> Result<(), AllocError>
     ensures ok { OnOk result (out.new.items ≡ out.old.items ++ remark_line remark.now) }
     ensures err { OnErr result (out.new.items ≡ out.old.items) }

@@ -3,7 +3,7 @@
 ghost use Rattle.std.specs.Prelude.{◌≡◌, ◌≤◌, ◌⊎◌, true, Err, IfOk, IfErr};
 ghost use Rattle.std.specs.List.{All};
 ghost use Rattle.pc_offset_client.specs.declared.fault.ClientFault.TheVariants.{NoMemory as Forgot};
-ghost use Rattle.parcon.specs.Play.{IsAborted, moment};
+ghost use Rattle.pc_play.specs.Play.{IsAborted, moment};
 ghost use Rattle.parcon.specs.Starts.{IsSendable, Sends, SendsStart, commit_at};
 
 use pc_model::{Commit, MapText, Start};

@@ -1,5 +1,6 @@
-//! Plays over an outside in memory whose reads, calls of the link and writes fail, over a broker
-//! that stores something, and over a link that tells nothing. `cases/` has all other plays.
+//! Plays over an outside in memory whose reads, calls of the link and writes fail, over brokers that
+//! store something or have another topic, and over a link that tells nothing. `cases/` has all other
+//! plays.
 
 use crate::offline::offline;
 use crate::play_setup::Ended;
@@ -11,10 +12,10 @@ use std::alloc::{AllocError, Global};
 use std::test::Fail;
 
 /// More than any output of these tests.
-pub(crate) const ROOM: u64 = 1024;
+const ROOM: u64 = 1024;
 
 /// One batch with the records (0, "a", "x"), (1, "b", "yy") and (2, "a", "zzz").
-pub(crate) const THREE_RECORDS: [u8; 91] = [
+const THREE_RECORDS: [u8; 91] = [
     // baseOffset, batchLength, partitionLeaderEpoch, magic, crc
     0x00, 0x00, 0x00, 0x00, 0x00, 0x00, 0x00, 0x00, //
     0x00, 0x00, 0x00, 0x4F, 0x00, 0x00, 0x00, 0x00, 0x02, 0xD6, 0xFC, 0x11, 0xEE, //
@@ -31,60 +32,54 @@ pub(crate) const THREE_RECORDS: [u8; 91] = [
     0x14, 0x00, 0x00, 0x04, 0x02, 0x61, 0x06, 0x7A, 0x7A, 0x7A, 0x00,
 ];
 
-/// Plays `a.log`, which has three records, and `a.script` over a link. The read and the write of
-/// these numbers fail; 0 is none.
+/// Plays the script over `a.log`, which has three records, with this configuration, over a link. The
+/// read of this number fails, 0 for none: the configuration is read first, then the log and the script.
 fn play<L: Link + Drop>(
     alloc: Global,
+    config: &[u8],
     script: &[u8],
     read: u64,
     link: L,
     out: &mut MemorySink,
 ) -> Result<Ended<L>, AllocError> {
     let mut files = MemoryFiles::new(alloc, &[read])?;
+    files.add("c.toml", config)?;
     files.add("a.log", &THREE_RECORDS)?;
     files.add("a.script", script)?;
     let mut words = Vec::new(alloc);
-    for word in ["play", "a.log", "a.script"] {
+    for word in ["play", "--config=c.toml", "a.log", "a.script"] {
         words.push(String::from_str(alloc, word)?)?;
     }
     Ok(offline(alloc, &words, &mut files, link, out))
 }
 
-/// The broker of a topic with two parts, of whose calls one fails early and one late; 0 is none.
-/// For part 0 it has a commit where a position is given.
-fn link(
-    alloc: Global,
-    topic: &str,
-    position: Option<u32>,
-    call: u64,
+/// A play over an outside of which something fails, and how it ends. Numbers of calls count from 1;
+/// 0 is none.
+#[derive(Clone, Copy)]
+struct Row {
+    config: &'static [u8],
+    script: &'static [u8],
+    /// The text of the map of the commit at 7 that the broker has for part 0 at first, if it has one.
+    map: Option<&'static str>,
+    /// The number of the read that fails.
+    read: u64,
+    /// The number of the link's call that fails before the broker has it.
+    early: u64,
+    /// The number of the link's call that fails after the broker had it.
     late: u64,
-) -> Result<FailingLink<OffsetBroker>, Fail> {
-    let mut broker = OffsetBroker::new(alloc, topic, 2)?;
-    if let Some(position) = position {
-        let map = MapText::from_str(alloc, "bAACAg==")?;
-        let position = u64::from(position);
-        broker.with(GROUP, 0, Commit { position, map })?;
-    }
-    let Ok(link) = FailingLink::new(alloc, broker, &[call], &[late]) else {
-        return Err(AllocError.into());
-    };
-    Ok(link)
+    /// The number of the write that fails.
+    write: u64,
+    /// How many bytes a write takes at most.
+    room: u64,
+    output: &'static [u8],
+    status: u8,
+    /// How many events the journal has.
+    events: u64,
+    /// The position and the map that the broker stores for part 0 at the end, and the position for part 1.
+    stored: (u64, &'static str, u64),
 }
 
-/// The numbers of the read, of the link's call, of its call that fails after it was handed on, and
-/// of the write that fail, 0 for none; the room of the sink; the script, the output, the number of
-/// the status, and how many events there are.
-type Row = (
-    u64,
-    u64,
-    u64,
-    u64,
-    u64,
-    &'static [u8],
-    &'static [u8],
-    u8,
-    u64,
-);
+const ASSIGN: &[u8] = b"assign 0\n";
 
 const TWO_LINES: &[u8] = b"assign 0\ncommit 0\n";
 
@@ -92,174 +87,271 @@ const COMMIT: &[u8] = b"assign 0\npoll 0 3\ntake 1\nend 1\ncommit 0\ncrash\nassi
 
 const REVOKE: &[u8] = b"assign 0\npoll 0 3\ntake 1\nend 1\nrevoke 0\nassign 0\n";
 
-const FAULTS: [Row; 13] = [
+/// Two starts; that of part 1 is sent first.
+const STARTS: &[u8] =
+    b"start = [{ part = 1, position = 5 }, { part = 0, position = 1, map = \"bAACAg==\" }]\n";
+
+/// Two lines over an outside of which nothing fails.
+const ROW: Row = Row {
+    config: b"",
+    script: TWO_LINES,
+    map: None,
+    read: 0,
+    early: 0,
+    late: 0,
+    write: 0,
+    room: ROOM,
+    output: b"",
+    status: 0,
+    events: 0,
+    stored: (0, "", 0),
+};
+
+/// One line after two starts, over such an outside.
+const START_ROW: Row = Row {
+    config: STARTS,
+    script: ASSIGN,
+    ..ROW
+};
+
+const COMMIT_FAILED: &[u8] =
+    b"assign 0 epoch 1 at 0 map =\ncommit-failed 0 at 0 map = size 0\nline 2: link-failed\n";
+
+const KEPT_COMMIT_FAILED: &[u8] =
+    b"assign 0 epoch 1 at 7 map =bAACAg==\ncommit-failed 0 at 7 map = size 0\nline 2: link-failed\n";
+
+const START_FAILED: &[u8] = b"fault link link-failed\n";
+
+const ROWS: [Row; 23] = [
     // The link fails at the commit, before the broker has it and after.
-    (
-        0,
-        2,
-        0,
-        0,
-        ROOM,
-        TWO_LINES,
-        b"assign 0 epoch 1 at 0 map =\ncommit-failed 0 at 0 map = size 0\nline 2: link-failed\n",
-        0,
-        2,
-    ),
-    (
-        0,
-        0,
-        2,
-        0,
-        ROOM,
-        TWO_LINES,
-        b"assign 0 epoch 1 at 0 map =\ncommit-failed 0 at 0 map = size 0\nline 2: link-failed\n",
-        0,
-        2,
-    ),
-    (
-        0,
-        2,
-        0,
-        0,
-        ROOM,
-        COMMIT,
-        b"assign 0 epoch 1 at 0 map =\npoll 0 count 3 last 2\n\
+    Row {
+        early: 2,
+        output: COMMIT_FAILED,
+        events: 2,
+        ..ROW
+    },
+    Row {
+        late: 2,
+        output: COMMIT_FAILED,
+        events: 2,
+        ..ROW
+    },
+    Row {
+        script: COMMIT,
+        early: 2,
+        output: b"assign 0 epoch 1 at 0 map =\npoll 0 count 3 last 2\n\
 dispatch 1 worker 1 part 0 offset 0 epoch 1 attempt 1\nsuccess 1 =1\n\
 commit-failed 0 at 1 map = size 0\ncrash\nassign 0 epoch 3 at 0 map =\nline 5: link-failed\n",
-        0,
-        7,
-    ),
-    (
-        0,
-        0,
-        2,
-        0,
-        ROOM,
-        COMMIT,
-        b"assign 0 epoch 1 at 0 map =\npoll 0 count 3 last 2\n\
+        events: 7,
+        ..ROW
+    },
+    Row {
+        script: COMMIT,
+        late: 2,
+        output: b"assign 0 epoch 1 at 0 map =\npoll 0 count 3 last 2\n\
 dispatch 1 worker 1 part 0 offset 0 epoch 1 attempt 1\nsuccess 1 =1\n\
 commit-failed 0 at 1 map = size 0\ncrash\nassign 0 epoch 3 at 1 map =\nline 5: link-failed\n",
-        0,
-        7,
-    ),
+        events: 7,
+        stored: (1, "", 0),
+        ..ROW
+    },
     // The same of the commit of a revocation, which is not refused and has no remark.
-    (
-        0,
-        2,
-        0,
-        0,
-        ROOM,
-        REVOKE,
-        b"assign 0 epoch 1 at 0 map =\npoll 0 count 3 last 2\n\
+    Row {
+        script: REVOKE,
+        early: 2,
+        output: b"assign 0 epoch 1 at 0 map =\npoll 0 count 3 last 2\n\
 dispatch 1 worker 1 part 0 offset 0 epoch 1 attempt 1\nsuccess 1 =1\n\
 commit-failed 0 at 1 map = size 0\nrevoke 0 epoch 1\nassign 0 epoch 3 at 0 map =\n",
-        0,
-        7,
-    ),
-    (
-        0,
-        0,
-        2,
-        0,
-        ROOM,
-        REVOKE,
-        b"assign 0 epoch 1 at 0 map =\npoll 0 count 3 last 2\n\
+        events: 7,
+        ..ROW
+    },
+    Row {
+        script: REVOKE,
+        late: 2,
+        output: b"assign 0 epoch 1 at 0 map =\npoll 0 count 3 last 2\n\
 dispatch 1 worker 1 part 0 offset 0 epoch 1 attempt 1\nsuccess 1 =1\n\
 commit-failed 0 at 1 map = size 0\nrevoke 0 epoch 1\nassign 0 epoch 3 at 1 map =\n",
-        0,
-        7,
-    ),
+        events: 7,
+        stored: (1, "", 0),
+        ..ROW
+    },
     // It fails at the assignment.
-    (
-        0,
-        1,
-        0,
-        0,
-        ROOM,
-        TWO_LINES,
-        b"line 1: link-failed\nline 2: not-held\n",
-        0,
-        0,
-    ),
+    Row {
+        early: 1,
+        output: b"line 1: link-failed\nline 2: not-held\n",
+        ..ROW
+    },
     // Each read fails in turn.
-    (1, 0, 0, 0, ROOM, TWO_LINES, b"fault read =a.log\n", 2, 0),
-    (2, 0, 0, 0, ROOM, TWO_LINES, b"fault read =a.script\n", 2, 0),
+    Row {
+        read: 1,
+        output: b"fault read =c.toml\n",
+        status: 2,
+        ..ROW
+    },
+    Row {
+        read: 2,
+        output: b"fault read =a.log\n",
+        status: 2,
+        ..ROW
+    },
+    Row {
+        read: 3,
+        output: b"fault read =a.script\n",
+        status: 2,
+        ..ROW
+    },
     // The writes fail: that of a play, that of a fault line, and the second of each.
-    (0, 0, 0, 1, ROOM, TWO_LINES, b"", 7, 2),
-    (1, 0, 0, 1, ROOM, TWO_LINES, b"", 7, 0),
-    (0, 0, 0, 2, 8, TWO_LINES, b"assign 0", 7, 2),
-    (1, 0, 0, 0, 8, TWO_LINES, b"fault re", 7, 0),
+    Row {
+        write: 1,
+        status: 7,
+        events: 2,
+        ..ROW
+    },
+    Row {
+        read: 2,
+        write: 1,
+        status: 7,
+        ..ROW
+    },
+    Row {
+        write: 2,
+        room: 8,
+        output: b"assign 0",
+        status: 7,
+        events: 2,
+        ..ROW
+    },
+    Row {
+        read: 2,
+        room: 8,
+        output: b"fault re",
+        status: 7,
+        ..ROW
+    },
+    // The broker stores something. A commit that was stored has no map; a late failure leaves it in the
+    // store, and an early one what stood there.
+    Row {
+        map: Some("bAACAg=="),
+        output: b"assign 0 epoch 1 at 7 map =bAACAg==\ncommit 0 at 7 map = size 0\n",
+        events: 2,
+        stored: (7, "", 0),
+        ..ROW
+    },
+    Row {
+        map: Some("bAACAg=="),
+        early: 2,
+        output: KEPT_COMMIT_FAILED,
+        events: 2,
+        stored: (7, "bAACAg==", 0),
+        ..ROW
+    },
+    Row {
+        map: Some("bAACAg=="),
+        late: 2,
+        output: KEPT_COMMIT_FAILED,
+        events: 2,
+        stored: (7, "", 0),
+        ..ROW
+    },
+    // Two starts are stored.
+    Row {
+        output: b"assign 0 epoch 1 at 1 map =bAACAg==\n",
+        events: 1,
+        stored: (1, "bAACAg==", 5),
+        ..START_ROW
+    },
+    // The link fails at the first start, and at the second, before the broker has it and after.
+    Row {
+        early: 1,
+        output: START_FAILED,
+        status: 8,
+        ..START_ROW
+    },
+    Row {
+        late: 1,
+        output: START_FAILED,
+        status: 8,
+        stored: (0, "", 5),
+        ..START_ROW
+    },
+    Row {
+        early: 2,
+        output: START_FAILED,
+        status: 8,
+        stored: (0, "", 5),
+        ..START_ROW
+    },
+    Row {
+        late: 2,
+        output: START_FAILED,
+        status: 8,
+        stored: (1, "bAACAg==", 5),
+        ..START_ROW
+    },
+    // The third call is the fetch of the assignment.
+    Row {
+        early: 3,
+        output: b"line 1: link-failed\n",
+        stored: (1, "bAACAg==", 5),
+        ..START_ROW
+    },
 ];
+
+/// The broker of a topic with two parts. With a map it has a commit at 7 for part 0.
+fn broker(alloc: Global, map: Option<&str>) -> Result<OffsetBroker, Fail> {
+    let mut broker = OffsetBroker::new(alloc, TOPIC, 2)?;
+    if let Some(map) = map {
+        let map = MapText::from_str(alloc, map)?;
+        broker.with(GROUP, 0, Commit { position: 7, map })?;
+    }
+    Ok(broker)
+}
+
+/// Plays a row into the sink.
+fn play_row(
+    alloc: Global,
+    row: Row,
+    out: &mut MemorySink,
+) -> Result<Ended<FailingLink<OffsetBroker>>, Fail> {
+    let broker = broker(alloc, row.map)?;
+    let Ok(link) = FailingLink::new(alloc, broker, &[row.early], &[row.late]) else {
+        return Err(AllocError.into());
+    };
+    Ok(play(alloc, row.config, row.script, row.read, link, out)?)
+}
 
 #[test]
 fn each_fault_of_the_outside(rt: HostRuntime) -> Result<(), Fail> {
-    for (read, call, late, write, room, script, output, status, events) in FAULTS {
-        let mut out = MemorySink::new(rt.alloc(), room, &[write])?;
-        let link = link(rt.alloc(), TOPIC, None, call, late)?;
-        let ended = play(rt.alloc(), script, read, link, &mut out)?;
-        assert_eq!(rt; out.bytes(), output, "at {script:?}");
-        assert_eq!(rt; ended.status.number(), status, "at {output:?}");
-        assert_eq!(rt; ended.journal.len(), events, "at {output:?}");
+    for row in ROWS {
+        let mut out = MemorySink::new(rt.alloc(), row.room, &[row.write])?;
+        let ended = play_row(rt.alloc(), row, &mut out)?;
+        assert_eq!(rt; out.bytes(), row.output, "at {}", row.events);
+        assert_eq!(rt; ended.status.number(), row.status, "at {}", row.events);
+        assert_eq!(rt; ended.journal.len(), row.events);
+        let (position, map, second) = row.stored;
+        let mut client = Client::new(rt.alloc(), ended.link.into_link());
+        let commit = client.fetch(0)?;
+        assert_eq!(rt; (commit.position, commit.map.as_str()), (position, map));
+        assert_eq!(rt; client.fetch(1)?.position, second);
     }
     Ok(())
 }
 
-/// The topic of the broker, what it stores for part 0 at first, the numbers of the calls that fail
-/// early and late, and the output.
-type Stored = (&'static str, Option<u32>, u64, u64, &'static [u8]);
-
-/// Plays over a broker that stores something, and over one of another topic.
-const STORED: [Stored; 4] = [
-    (
-        "log",
-        Some(7),
-        0,
-        0,
-        b"assign 0 epoch 1 at 7 map =bAACAg==\ncommit 0 at 7 map = size 0\n",
-    ),
-    (
-        "log",
-        Some(7),
-        2,
-        0,
-        b"assign 0 epoch 1 at 7 map =bAACAg==\ncommit-failed 0 at 7 map = size 0\nline 2: link-failed\n",
-    ),
-    (
-        "log",
-        Some(7),
-        0,
-        2,
-        b"assign 0 epoch 1 at 7 map =bAACAg==\ncommit-failed 0 at 7 map = size 0\nline 2: link-failed\n",
-    ),
-    (
-        "other",
-        None,
-        0,
-        0,
-        b"line 1: refused 3\nline 2: not-held\n",
-    ),
+/// A configuration, and the output and the status over the broker of another topic.
+const REFUSED: [(&[u8], &[u8], u8); 2] = [
+    (b"", b"line 1: refused 3\nline 2: not-held\n", 0),
+    (STARTS, b"fault link refused 3\n", 8),
 ];
 
-/// What those brokers store for part 0 at the end. A commit that was stored has no map; a late
-/// failure leaves it in the store, and an early one what stood there.
-const KEPT: [Option<(u64, &str)>; 4] = [Some((7, "")), Some((7, "bAACAg==")), Some((7, "")), None];
-
 #[test]
-fn the_store_has_what_may_be_stored(rt: HostRuntime) -> Result<(), Fail> {
-    for i in 0..4 {
-        let (topic, position, call, late, output) = STORED[i];
-        let link = link(rt.alloc(), topic, position, call, late)?;
+fn a_broker_without_the_topic(rt: HostRuntime) -> Result<(), Fail> {
+    for (config, output, status) in REFUSED {
+        let link = OffsetBroker::new(rt.alloc(), "other", 2)?;
         let mut out = MemorySink::new(rt.alloc(), ROOM, &[])?;
-        let ended = play(rt.alloc(), TWO_LINES, 0, link, &mut out)?;
-        assert_eq!(rt; out.bytes(), output, "at {i}");
-        assert_eq!(rt; ended.status.number(), 0, "at {i}");
-        let mut client = Client::new(rt.alloc(), ended.link.into_link());
-        if let Some(kept) = KEPT[i] {
-            let commit = client.fetch(0)?;
-            assert_eq!(rt; (commit.position, commit.map.as_str()), kept, "at {i}");
-        } else {
-            assert_eq!(rt; ended.journal.len(), 0, "at {i}");
-        }
+        let ended = play(rt.alloc(), config, TWO_LINES, 0, link, &mut out)?;
+        assert_eq!(rt; out.bytes(), output);
+        assert_eq!(rt; ended.status.number(), status);
+        assert_eq!(rt; ended.journal.len(), 0);
     }
     Ok(())
 }
@@ -307,7 +399,7 @@ fn a_link_that_tells_nothing(rt: HostRuntime) -> Result<(), Fail> {
     for (reply, output) in ANSWERS {
         let alloc = rt.alloc();
         let mut out = MemorySink::new(alloc, ROOM, &[])?;
-        let ended = play(alloc, b"assign 0\n", 0, OneReply { alloc, reply }, &mut out)?;
+        let ended = play(alloc, b"", ASSIGN, 0, OneReply { alloc, reply }, &mut out)?;
         assert_eq!(rt; out.bytes(), output, "by {reply:?}");
         assert_eq!(rt; ended.status.number(), 0);
     }

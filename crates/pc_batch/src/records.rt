@@ -60,6 +60,17 @@ impl<'a> Records<'a> {
             least: frame.base,
         }
     }
+
+    /// The same records once more, without a look at the bytes.
+    pub fn again(&self) -> Records<'a>
+        ensures { result ≡ self.now }
+    {
+        Records {
+            bytes: self.bytes,
+            frame: self.frame,
+            least: self.least,
+        }
+    }
 }
 
 impl<'a> Iterator for Records<'a> {

@@ -33,14 +33,6 @@ first-one most last r rs some le =
     ap (take most) next ∙ ap (λ (n : ℕ). take n (r ∷ take_while
     (λ (q : Record). leb q.offset last) rs)) e
 
-first-over : (most last : ℕ) (r : Record) (rs : List Record) → last < r.offset
-    → first_upto most last (r ∷ rs) ≡ []
-first-over most last r rs lt =
-    let test : leb r.offset last ≡ false = lt-leb r.offset last lt in
-    ap (take most) (take_while-cons (λ (q : Record). leb q.offset last) r rs
-    ∙ ap (λ (b : Bool). cond b (r ∷ take_while (λ (q : Record). leb q.offset last) rs) []) test)
-    ∙ take-nil most
-
 -- ---- where the offsets rise
 
 pub rises-filter : (f : Record → Bool) (n : ℕ) (rs : List Record) → rises_from n rs ≡ true
@@ -71,7 +63,7 @@ upto-none n last (r ∷ rs) lt e =
     rw no (upto-none (suc r.offset) last rs (omega arith) rest)
 
 -- the first that are not above an offset are all that are not
-upto-while : (n last : ℕ) (rs : List Record) → rises_from n rs ≡ true
+pub upto-while : (n last : ℕ) (rs : List Record) → rises_from n rs ≡ true
     → take_while (λ (q : Record). leb q.offset last) rs ≡ upto last rs
 upto-while n last [] e = refl
 upto-while n last (r ∷ rs) e = take_while-cons (λ (q : Record). leb q.offset last) r rs
@@ -87,39 +79,3 @@ upto-while n last (r ∷ rs) e = take_while-cons (λ (q : Record). leb q.offset 
     by_test true h more = ap (λ (l : List Record). r ∷ l) more
     by_test false h more = sym (upto-none (suc r.offset) last rs (let over =
         leb-false r.offset last h in omega arith) rest)
-
-upto-top : (n last : ℕ) (rs : List Record) → rises_from n rs ≡ true → 2 ^ 63 - 1 ≤ last
-    → upto last rs ≡ rs
-upto-top n last [] e high = refl
-upto-top n last (r ∷ rs) e high =
-    let top = ltb-true r.offset (2 ^ 63 - 1) (and-left _ _ (and-right (leb n r.offset) _ e)) in
-    let rest = and-right (ltb r.offset _) _ (and-right (leb n r.offset) _ e) in
-    let yes : leb r.offset last ≡ true = le-leb r.offset last (omega arith) in
-    rw yes (ap (λ (l : List Record). r ∷ l) (upto-top (suc r.offset) last rs rest high))
-
-filter-few : (f : Record → Bool) (rs : List Record) → length (filter f rs) ≤ length rs
-filter-few f [] = omega arith
-filter-few f (r ∷ rs) = by_test (f r) (filter-few f rs)
-  where
-    by_test : (t : Bool) → length (filter f rs) ≤ length rs
-        → length (cond t (r ∷ filter f rs) (filter f rs)) ≤ length (r ∷ rs)
-    by_test true le = omega arith
-    by_test false le = omega arith
-
--- so many of all records from an offset on
-pub first-most : (most from top : ℕ) (log : List Record) → rises_from 0 log ≡ true
-    → 2 ^ 63 - 1 ≤ top → first_upto most top (not_below from log) ≡ take most (not_below from log)
-first-most most from top log e high =
-    let rise = rises-filter (λ (r : Record). leb from r.offset) 0 log e in
-    ap (take most) (upto-while 0 top (not_below from log) rise
-    ∙ upto-top 0 top (not_below from log) rise high)
-
--- all records from an offset up to another
-pub first-known : (from last : ℕ) (log : List Record) → rises_from 0 log ≡ true
-    → first_upto (length log) last (not_below from log) ≡ upto last (not_below from log)
-first-known from last log e =
-    let rise = rises-filter (λ (r : Record). leb from r.offset) 0 log e in
-    let one = filter-few (λ (r : Record). leb r.offset last) (not_below from log) in
-    let two = filter-few (λ (r : Record). leb from r.offset) log in
-    ap (take (length log)) (upto-while 0 last (not_below from log) rise)
-    ∙ take_all (length log) (upto last (not_below from log)) (omega arith)

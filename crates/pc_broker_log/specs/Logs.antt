@@ -1,11 +1,14 @@
 -- The logs of the parts as a list, and what is taken of them.
-use Rattle.std.specs.Prelude.{◌≡◌, ◌≤◌, ◌<◌, ℕ, ◌+◌, ◌-◌, true, List, [], ◌++◌, length, map, take, replicate, Option, Some, None, is_some, option_map, unwrap_or, nat_le, nat_lt, filter, slice_get, slice_set, if◌then◌else◌}
+use Rattle.std.specs.Prelude.{◌≡◌, ◌≤◌, ◌<◌, ℕ, ◌+◌, ◌-◌, true, List, [], ◌∷◌, ◌++◌, length, map, take, replicate, Option, Some, None, is_some, option_map, unwrap_or, nat_le, nat_lt, filter, slice_get, slice_set, if◌then◌else◌}
 use Rattle.std.specs.List.{list_all, take_while, sum_by}
 use Rattle.std.specs.Option.{option_flatten}
+use Rattle.std.specs.Iterator.{YieldsFirstBy}
 use Rattle.pc_model.specs.declared.limits.TheConstants.{MAX_PARTS, MAX_RECORDS}
 use Rattle.pc_model.specs.Record.{Record}
 use Rattle.pc_model.specs.Given.{rises_from}
 use Rattle.pc_batch.specs.Batch.{Placed}
+use Rattle.pc_batch.specs.Record.{plain}
+use Rattle.pc_batch.specs.declared.record.RecordRef.{RecordRef}
 use Rattle.pc_cursor.specs.Log.{contents_of, records_of}
 use Rattle.pc_broker_log.specs.declared.fault.AddFault.{AddFault}
 use Rattle.pc_broker_log.specs.declared.fault.AddFault.TheVariants.{UnknownPart, TwiceGiven, TooManyRecords}
@@ -41,6 +44,21 @@ upto last records = filter (λ r. nat_le r.offset last) records
 -- the first records, at most so many, before the first that is above an offset
 abbrev pub first_upto : ℕ → ℕ → List Record → List Record
 first_upto most last records = take most (take_while (λ r. nat_le r.offset last) records)
+
+-- the next records of a log: those that are still to be given, and all that are left of the log
+pub record PolledView : Type 0 where
+  pub left : List Record
+  pub log : List Record
+
+-- the record that was given was the first of those that were left of the log
+abbrev pub IsFirstOf : List Record → Option RecordRef → List Record → Type 0
+IsFirstOf old None new = new ≡ old
+IsFirstOf old (Some r) new = old ≡ plain r ∷ new
+
+-- the first record that was left was given, or nothing where none was
+abbrev pub GivesPolled : PolledView → Option RecordRef → PolledView → Type 0
+GivesPolled old given new = YieldsFirstBy plain (λ p. p.left) old given new
+    × IsFirstOf old.log given new.log
 
 -- a table of logs with so many records: parts are below the limit, the last place has a log, and each
 -- log's offsets rise

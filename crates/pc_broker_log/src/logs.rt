@@ -1,6 +1,6 @@
 //! The logs of all parts. Clauses see the records of each.
 
-ghost use Rattle.std.specs.Prelude.{◌≡◌, ◌-◌, ◌<◌, ◌≤◌, ◌++◌, true, [], length, take, replicate, Some, None, Err, is_some, option_map, unwrap_or, OnOk, OnErr, IfErr, IfSome, find, ◌==◌};
+ghost use Rattle.std.specs.Prelude.{◌≡◌, ◌-◌, ◌<◌, ◌≤◌, ◌++◌, true, [], length, replicate, Some, None, Err, is_some, option_map, unwrap_or, OnOk, OnErr, IfErr, IfSome, find, ◌==◌};
 ghost use Rattle.std.specs.List.{list_all};
 ghost use Rattle.pc_model.specs.Given.{rises_from};
 ghost use Rattle.pc_batch.specs.Record.{plain};
@@ -8,12 +8,11 @@ ghost use Rattle.pc_cursor.specs.Cursor.{not_below};
 ghost use Rattle.pc_cursor.specs.Log.{contents_of, records_of};
 ghost use Rattle.pc_broker_log.specs.declared.fault.AddFault.{AddFault};
 ghost use Rattle.pc_broker_log.specs.declared.fault.AddFault.TheVariants.{NoMemory};
-ghost use Rattle.pc_broker_log.specs.Logs.{log_at, record_total, add_refusal, with_log, upto};
+ghost use Rattle.pc_broker_log.specs.Logs.{log_at, record_total, add_refusal, with_log};
 
 use crate::fault::AddFault;
-use crate::polled::Polled;
 use pc_batch::RecordRef;
-use pc_cursor::Log;
+use pc_cursor::{Cursor, Log};
 use pc_model::limits::{MAX_PARTS, MAX_RECORDS};
 use std::alloc::{AllocError, Global};
 use std::marker::Model;
@@ -127,35 +126,15 @@ impl<'a> BrokerLogs<'a> {
         self.logs.len() as u32
     }
 
-    /// The next records of the part: the first of those not below an offset, at most so many. None
-    /// where the part has no log.
-    pub fn poll(&self, part: u32, from: u64, max: u32) -> Option<Polled<'_>>
-        ensures { result
-            ≡ option_map (λ log. take max (not_below from log)) (log_at self.now part) }
+    /// A cursor at the first record of the part that is not below an offset. None where the part
+    /// has no log.
+    pub fn cursor(&self, part: u32, from: u64) -> Option<Cursor<'_>>
+        ensures { option_map (λ c. c.left) result
+            ≡ option_map (not_below from) (log_at self.now part) }
     {
         let mut cursor = self.log(part)?.cursor();
         cursor.seek(from);
-        Some(Polled {
-            cursor,
-            most: u64::from(max),
-            upto: u64::MAX,
-        })
-    }
-
-    /// The records of the part from one offset up to another, with both. None where the part has no
-    /// log.
-    pub fn known_upto(&self, part: u32, from: u64, last: u64) -> Option<Polled<'_>>
-        ensures { result
-            ≡ option_map (λ log. upto last (not_below from log)) (log_at self.now part) }
-    {
-        let log = self.log(part)?;
-        let mut cursor = log.cursor();
-        cursor.seek(from);
-        Some(Polled {
-            cursor,
-            most: log.records(),
-            upto: last,
-        })
+        Some(cursor)
     }
 
     /// The part's record at the offset. None where the part has no log or no record is there.

@@ -129,10 +129,11 @@ fn polls(rt: HostRuntime) -> Result<(), Fail> {
         (0, 0, 0, None, None),
     ];
     for (from, max, count, first, last) in cases {
-        let polled = logs.poll(0, from, max).ok_or("the part has a log")?;
+        let cursor = logs.cursor(0, from).ok_or("the part has a log")?;
+        let polled = Polled::new(cursor, max, u64::MAX);
         assert_eq!(rt; seen(polled), (count, first, last), "{max} from {from}");
     }
-    assert!(rt; logs.poll(1, 0, 9).is_none());
+    assert!(rt; logs.cursor(1, 0).is_none());
     Ok(())
 }
 
@@ -160,7 +161,7 @@ fn records_at_offsets(rt: HostRuntime) -> Result<(), Fail> {
 }
 
 #[test]
-fn known_records(rt: HostRuntime) -> Result<(), Fail> {
+fn polls_up_to_an_offset(rt: HostRuntime) -> Result<(), Fail> {
     let bytes = six_records();
     let logs = one_log(rt.alloc(), 7, &bytes)?;
     let cases: [(u64, u64, u64, Option<u64>, Option<u64>); 6] = [
@@ -172,10 +173,10 @@ fn known_records(rt: HostRuntime) -> Result<(), Fail> {
         (2, 1, 0, None, None),
     ];
     for (from, upto, count, first, last) in cases {
-        let known = logs.known_upto(7, from, upto).ok_or("the part has a log")?;
-        assert_eq!(rt; seen(known), (count, first, last), "{from} to {upto}");
+        let cursor = logs.cursor(7, from).ok_or("the part has a log")?;
+        let polled = Polled::new(cursor, 9, upto);
+        assert_eq!(rt; seen(polled), (count, first, last), "{from} to {upto}");
     }
-    assert!(rt; logs.known_upto(6, 0, 9).is_none());
     Ok(())
 }
 

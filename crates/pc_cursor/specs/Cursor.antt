@@ -1,6 +1,7 @@
 -- What a cursor has still to give.
-use Rattle.std.specs.Prelude.{◌≡◌, ℕ, zero, suc, List, [], ◌++◌, length, Option, Result, Ok, Err, nat_le, filter}
+use Rattle.std.specs.Prelude.{◌≡◌, ◌≤◌, ℕ, zero, suc, List, [], ◌∷◌, ◌++◌, length, Option, None, Some, Result, Ok, Err, nat_le, filter}
 use Rattle.std.specs.Iterator.{YieldsFirstBy}
+use Rattle.std.specs.List.{take_while}
 use Rattle.pc_model.specs.Record.{Record}
 use Rattle.pc_batch.specs.declared.fault.BatchFault.{BatchFault}
 use Rattle.pc_batch.specs.declared.record.RecordRef.{RecordRef}
@@ -19,6 +20,14 @@ not_below offset records = filter (λ r. nat_le offset r.offset) records
 -- a cursor gave the first record that was left, or nothing where none was; its log stays
 abbrev pub GivesNext : CursorView → Option RecordRef → CursorView → Type 0
 GivesNext old given new = YieldsFirstBy plain (λ c. c.left) old given new × (new.all ≡ old.all)
+
+-- A cursor gave the first record that was left, if that is not above an offset; else it is as it was.
+-- Its log stays.
+abbrev pub GivesUpto : ℕ → CursorView → Option RecordRef → CursorView → Type 0
+GivesUpto last old None new =
+    (take_while (λ r. nat_le r.offset last) old.left ≡ []) × (new ≡ old)
+GivesUpto last old (Some r) new =
+    (old.left ≡ plain r ∷ new.left) × (r.offset ≤ last) × (new.all ≡ old.all)
 
 -- what goes on behind a batch; nothing where there is none
 abbrev pub and_on : Result Placed BatchFault → (Placed → List Record) → List Record

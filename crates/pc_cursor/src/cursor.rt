@@ -3,7 +3,7 @@
 ghost use Rattle.std.specs.Prelude.{◌≡◌};
 ghost use Rattle.std.specs.Iterator.{YieldsFirstBy};
 ghost use Rattle.pc_batch.specs.Record.{plain};
-ghost use Rattle.pc_cursor.specs.Cursor.{not_below, records_from};
+ghost use Rattle.pc_cursor.specs.Cursor.{GivesUpto, not_below, records_from};
 ghost use Rattle.pc_cursor.specs.Entries.{IsIndex};
 ghost use Rattle.pc_cursor.specs.Log.{all_records};
 
@@ -88,6 +88,32 @@ impl<'a> Cursor<'a> {
         self.place = batch_place(self.bytes, self.entries, offset);
         self.records = Records::none();
         self.least = offset;
+    }
+
+    /// The same cursor once more. It reads no batch that this one has read.
+    pub fn again(&self) -> Cursor<'a>
+        ensures { result ≡ self.now }
+    {
+        Cursor {
+            bytes: self.bytes,
+            entries: self.entries,
+            place: self.place,
+            records: self.records.again(),
+            least: self.least,
+        }
+    }
+
+    /// The next record, if it is not above the offset. One that is above stays the next.
+    pub fn next_upto(&mut self, last: u64) -> Option<RecordRef<'a>>
+        ensures { GivesUpto last self.old result self.new }
+    {
+        let mut ahead = self.again();
+        let record = ahead.next()?;
+        if last < record.offset {
+            return None;
+        }
+        *self = ahead;
+        Some(record)
     }
 }
 

@@ -86,13 +86,13 @@ module _ (state : State) (h : List Event) (told : Bool) (outcomes : Outcomes) (k
           ∙ ap (λ (e : ℕ). Assign p e stored.position stored.map ∷ h1) epoch_is
           ∙ ap (λ (k : List Event). event ∷ k) same
 
-      pub assigned-given : given_to new h' told' kept' ≡ given
-      assigned-given = ap (λ (b : Bool). given_to new h' b kept') same_told
+      pub assigned-given : given_to new h' told' outcomes kept' ≡ given
+      assigned-given = ap (λ (b : Bool). given_to new h' b outcomes kept') same_told
           ∙ ap (λ (k : List Event). given_to new k told outcomes kept') event-is
           ∙ given_by-same new.setup.now new.logs.now h (event ∷ h) told outcomes kept kept' same-first
           ∙ given-known state new h (event ∷ h) told outcomes kept (knows may-come)
 
-      pub assigned-keeps : IsEngine (given_to new h' told' kept') kept' new room' h'
+      pub assigned-keeps : IsEngine (given_to new h' told' outcomes kept') kept' new room' h'
       assigned-keeps = subst (λ (x : Given). IsEngine x kept' new room' h') (sym assigned-given)
           (rw event-is (record {
             knows = knows may-come;

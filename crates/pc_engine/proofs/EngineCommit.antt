@@ -96,9 +96,9 @@ module _ (state : State) (h : List Event) (told : Bool) (outcomes : Outcomes) (k
         (h' : List Event) (room' : ℕ) (less : length (open_jobs h) ≤ room') where
       along : (v : Event) → ((q : ℕ) → assigned_by v q ≡ None)
           → (told ≡ true → (q : ℕ) → (q ≡ p → ⊥) → kept' q ≡ kept q)
-          → Knows given (v ∷ h) new → h' ≡ v ∷ h → given_to new h' told' kept' ≡ given
+          → Knows given (v ∷ h) new → h' ≡ v ∷ h → given_to new h' told' outcomes kept' ≡ given
       along v quiet others known after =
-          ap (λ (b : Bool). given_to new h' b kept') same_told
+          ap (λ (b : Bool). given_to new h' b outcomes kept') same_told
           ∙ ap (λ (k : List Event). given_to new k told outcomes kept') after
           ∙ given-commit new h v told outcomes kept kept' p may.held quiet others
           ∙ given-known state new h (v ∷ h) told outcomes kept known
@@ -128,10 +128,10 @@ module _ (state : State) (h : List Event) (told : Bool) (outcomes : Outcomes) (k
           limit = omega (arith, fits);
         })
 
-        pub committed-given : given_to new h' told' kept' ≡ given
+        pub committed-given : given_to new h' told' outcomes kept' ≡ given
         committed-given = along stored_event (λ q. refl) others_c known_c after
 
-        pub committed-keeps : IsEngine (given_to new h' told' kept') kept' new room' h'
+        pub committed-keeps : IsEngine (given_to new h' told' outcomes kept') kept' new room' h'
         committed-keeps = subst (λ (x : Given). IsEngine x kept' new room' h')
             (sym committed-given) (rw after (record {
               knows = known_c;
@@ -178,10 +178,10 @@ module _ (state : State) (h : List Event) (told : Bool) (outcomes : Outcomes) (k
           limit = omega (arith, fits);
         })
 
-        pub failed-given : given_to new h' told' kept' ≡ given
+        pub failed-given : given_to new h' told' outcomes kept' ≡ given
         failed-given = along failed_event (λ q. refl) others_f known_f after
 
-        pub failed-keeps : IsEngine (given_to new h' told' kept') kept' new room' h'
+        pub failed-keeps : IsEngine (given_to new h' told' outcomes kept') kept' new room' h'
         failed-keeps = subst (λ (x : Given). IsEngine x kept' new room' h') (sym failed-given)
             (rw after (record {
               knows = known_f;

@@ -4,7 +4,6 @@ use Rattle.std.proofs.Common.{◌≡◌, ℕ, zero, suc, ◌+◌, ◌-◌, ◌�
 use Rattle.std.specs.Prelude.{filter, if◌then◌else◌, nat_le, option_map, slice_get, unwrap_or}
 use Rattle.std.specs.Option.{option_map_or}
 use Rattle.std.proofs.lemmas.Bool.{cases_Bool, le-leb, leb-true}
-use Rattle.std.proofs.lemmas.List.{length-map}
 use Rattle.pc_model.specs.declared.commit.Commit.{Commit}
 use Rattle.pc_model.specs.declared.event.Event.{Event}
 use Rattle.pc_model.specs.declared.event.Event.TheVariants.{Poll}
@@ -15,8 +14,6 @@ use Rattle.pc_model.specs.Epochs.{is_held}
 use Rattle.pc_model.specs.Known.{high_of, polled_count, records_from_begin, unpolled_records}
 use Rattle.pc_model.specs.Pressure.{is_blocked, is_upto_high}
 use Rattle.pc_model.specs.Lawful.{IsLegal}
-use Rattle.pc_batch.specs.declared.record.RecordRef.{RecordRef}
-use Rattle.pc_batch.specs.Record.{plain}
 use Rattle.pc_laws.proofs.Lists.{true-not-false}
 use Rattle.pc_laws.proofs.Rising.{Rises}
 use Rattle.pc_laws.proofs.Blocked.{Rises-drop}
@@ -29,7 +26,6 @@ use Rattle.pc_state.specs.declared.state.State.{State}
 use Rattle.pc_state.specs.Calls.{next_records, pollable_records}
 use Rattle.pc_engine.specs.Effect.{Does, Step, is_full, last_offset, poll_left, poll_refusal, poll_step, polls, refuses}
 use Rattle.pc_engine.specs.Engine.{IsEngine}
-use Rattle.pc_state.specs.Polls.{AreNextRecords}
 use Rattle.pc_state.specs.State.{Knows, MayCome}
 use Rattle.pc_engine.proofs.EngineEvents.{room-limit}
 use Rattle.pc_engine.proofs.EngineTake.{not-full}
@@ -140,20 +136,6 @@ module _ (given : Given) (h : List Event) (p : ℕ) (legal : IsLegal given h) wh
       ap (take max) front ∙ take-take max (length pollable) (unpolled_records given h p)
       ∙ ap (λ (rs : List Record). take (length (take max rs)) (unpolled_records given h p)) (sym front)
 
-  next-count : (max : ℕ) (records : List RecordRef)
-      → map plain records ≡ (next_records given h p max)
-      → length records ≡ length (next_records given h p max)
-  next-count max records is =
-      sym (length-map {B = Record} records plain) ∙ ap length is
-
-  -- what was put are the next records that were not polled
-  pub are-next : (max : ℕ) (records : List RecordRef)
-      → map plain records ≡ (next_records given h p max)
-      → AreNextRecords given h p records
-  are-next max records is =
-      is ∙ next-front max
-      ∙ ap (λ (n : ℕ). take n (unpolled_records given h p)) (sym (next-count max records is))
-
 -- the first record that is left, if none presses it
 first-taken : (given : Given) (h : List Event) (p max first : ℕ) → 0 < max
     → option_map (λ r. r.offset) (slice_get (unpolled_records given h p) 0) ≡ Some first
@@ -174,35 +156,6 @@ first-taken given h p max first some is may =
         let at : r.offset ≡ first = some-injective r.offset first is in
         let passed : may_poll given h p r.offset ≡ true = ap (may_poll given h p) at ∙ may in
         rw passed (omega arith)
-
--- the offset of the last of the records that were put
-pub last-plain : (records : List RecordRef) (rs : List Record)
-    (x : RecordRef) → map plain records ≡ rs
-    → slice_get records (length records - 1) ≡ Some x → x.offset ≡ last_offset rs
-last-plain records rs x is at = last-at records rs is at
-  where
-    heads : {X : Type 0} → {a b : X} → {ls ms : List X} → a ∷ ls ≡ b ∷ ms → a ≡ b
-    heads e = cc
-
-    tails : {X : Type 0} → {a b : X} → {ls ms : List X} → a ∷ ls ≡ b ∷ ms → ls ≡ ms
-    tails e = cc
-
-    same : {X : Type 0} → {a b : X} → Some a ≡ Some b → a ≡ b
-    same e = cc
-
-    last-at : (ys : List RecordRef) (rs : List Record)
-        → map plain ys ≡ rs → slice_get ys (length ys - 1) ≡ Some x
-        → x.offset ≡ last_offset rs
-    last-at [] rs is at = cc
-    last-at (y ∷ []) [] is at = cc
-    last-at (y ∷ []) (r ∷ []) is at = sym (ap (λ (z : RecordRef). z.offset) (same at)) ∙ ap (λ (z : Record). z.offset) (heads is)
-    last-at (y ∷ []) (r ∷ q ∷ rs) is at = cc
-    last-at (y ∷ z ∷ ys) [] is at = cc
-    last-at (y ∷ z ∷ ys) (r ∷ []) is at = cc
-    last-at (y ∷ z ∷ ys) (r ∷ q ∷ rs) is at =
-        let place : length (y ∷ z ∷ ys) - 1 ≡ suc (length (z ∷ ys) - 1) = omega arith in
-        last-at (z ∷ ys) (q ∷ rs) (tails is)
-        (sym (ap (slice_get (y ∷ z ∷ ys)) place) ∙ at) ∙ sym (last-more r q rs)
 
 -- ---- what a poll that was not refused does
 
@@ -358,22 +311,17 @@ module _ (state : State) (h : List Event) (told : Bool) (outcomes : Outcomes) (k
     (none : poll_refusal (given_to state h told outcomes kept) h p ≡ None) (some : 0 < max)
     (left : Some first
     ≡ option_map (λ r. r.offset) (slice_get (unpolled_records (given_to state h told outcomes kept) h p) 0))
-    (free : may_poll (given_to state h told outcomes kept) h p first ≡ true)
-    (records : List RecordRef)
-    (next : map plain records
-    ≡ (next_records (given_to state h told outcomes kept) h p max)) where
+    (free : may_poll (given_to state h told outcomes kept) h p first ≡ true) where
   abbrev given : Given
   given = given_to state h told outcomes kept
 
-  count-is : length records ≡ length (next_records given h p max)
-  count-is = next-count given h p keeps.knows.legal max records next
+  abbrev records : List Record
+  records = next_records given h p max
 
   some-taken : 0 < length records
-  some-taken = let taken = first-taken given h p max first some (sym left) free in
-      omega (arith, taken, count-is)
+  some-taken = first-taken given h p max first some (sym left) free
 
-  may-come : is_full h 1 ≡ false
-      → MayCome given (Poll p (length records) (last_offset (next_records given h p max))) h
+  may-come : is_full h 1 ≡ false → MayCome given (Poll p (length records) (last_offset records)) h
   unfolding pollable_records
   may-come room_left = record {
     legal = (
@@ -394,8 +342,7 @@ module _ (state : State) (h : List Event) (told : Bool) (outcomes : Outcomes) (k
           (slice_get (unpolled_records given h p) (length records - 1))
           ≡ Some (last_offset (next_records given h p max))
       last-at = let front = next-front given h p keeps.knows.legal max in
-          let n : suc (length records - 1) ≡ length (next_records given h p max) =
-          omega (arith, some-taken, count-is) in
+          let n : suc (length records - 1) ≡ length records = omega (arith, some-taken) in
           let whole : take (suc (length records - 1)) (unpolled_records given h p)
           ≡ next_records given h p max =
           ap (λ (k : ℕ). take k (unpolled_records given h p)) n ∙ sym front in
@@ -414,31 +361,26 @@ module _ (state : State) (h : List Event) (told : Bool) (outcomes : Outcomes) (k
   module _ (new : State) (h1 h' : List Event) (room1 room' n m last : ℕ) (u : Unit {0})
       (room_left : ◌≡◌ {A = Result (Unit {0}) EngineFault} (Ok u)
       (if is_full h 1 then Err JournalFull else Ok tt)) (many : m ≡ length records)
-      (knows : (o : ℕ) → MayCome given (Poll p (length records) o) h
-      → Knows given (Poll p (length records) o ∷ h) new)
-      (end : last ≡ last_offset (next_records given h p max)) (same : h1 ≡ h)
+      (knows : MayCome given (Poll p m last) h → Knows given (Poll p m last ∷ h) new)
+      (end : last ≡ last_offset records) (same : h1 ≡ h)
       (after : h' ≡ Poll p m last ∷ h1) (count : n ≡ length (open_jobs h))
       (enough : n + 1 ≤ room1) (less : room' + 1 ≡ room1) where
-    event-is : h' ≡ Poll p (length records) (last_offset (next_records given h p max)) ∷ h
+    event-is : h' ≡ Poll p m last ∷ h
     event-is = after ∙ ap (λ (k : List Event). Poll p m last ∷ k) same
-        ∙ ap (λ (k : ℕ). Poll p k last ∷ h) many
-        ∙ ap (λ (o : ℕ). Poll p (length records) o ∷ h) end
 
-    known : Knows given (Poll p (length records) (last_offset (next_records given h p max)) ∷ h) new
-    known = knows (last_offset (next_records given h p max))
-        (may-come (not-full u (is_full h 1) room_left))
+    known : Knows given (Poll p m last ∷ h) new
+    known = knows (subst (λ (k : ℕ). MayCome given (Poll p k last) h) (sym many)
+        (subst (λ (o : ℕ). MayCome given (Poll p (length records) o) h) (sym end)
+        (may-come (not-full u (is_full h 1) room_left))))
 
     pub polled-keeps : IsEngine (given_to new h' told outcomes kept) kept new room' h'
-    polled-keeps = keeps-event state new h h' told outcomes kept room room'
-        (Poll p (length records) (last_offset (next_records given h p max))) keeps (λ q. refl) known
+    polled-keeps = keeps-event state new h h' told outcomes kept room room' (Poll p m last) keeps (λ q. refl) known
         (λ q. refl) refl refl (omega (arith, count, enough, less)) event-is
 
     pub polled-does : (◌≡◌ {A = Result ℕ EngineFault} (Ok m) (poll_step given h p max).answer)
         × (h' ≡ (poll_step given h p max).events ++ h)
     polled-does = poll-does given h p max first none left free m last h1 h' u room_left
-        (many ∙ count-is) end same after
+        many end same after
 
     pub polled-given : given_to new h' told outcomes kept ≡ given
-    polled-given = given-event state new h h' told outcomes kept
-        (Poll p (length records) (last_offset (next_records given h p max))) (λ q. refl) known
-        event-is
+    polled-given = given-event state new h h' told outcomes kept (Poll p m last) (λ q. refl) known event-is

@@ -15,6 +15,7 @@ use Rattle.pc_model.specs.Lawful.{ends_in_commit}
 use Rattle.pc_model.proofs.ListLemmas.{same_number}
 use Rattle.pc_offset_client.specs.declared.fault.ClientFault.{ClientFault}
 use Rattle.pc_offset_client.specs.declared.fault.ClientFault.TheVariants as client
+use Rattle.pc_task.specs.Jobs.{Outcomes}
 use Rattle.pc_engine.specs.declared.engine.Committed.{Committed as Receipt}
 use Rattle.pc_engine.specs.declared.fault.EngineFault.{EngineFault}
 use Rattle.pc_engine.specs.declared.fault.EngineFault.TheVariants.{Client, NoMemory}
@@ -229,14 +230,14 @@ module _ (given : Given) (h h2 : List Event) (p : ℕ) (told : Bool) (b b' : Bro
           )
 
   -- and what the type keeps, where the state is known behind the commit
-  module _ (state new : State) (told2 : Bool) (kept : ℕ → Commit) (room : ℕ)
-      (keeps : IsEngine (given_to state h2 told2 kept) kept state room h2)
+  module _ (state new : State) (told2 : Bool) (outcomes : Outcomes) (kept : ℕ → Commit) (room : ℕ)
+      (keeps : IsEngine (given_to state h2 told2 outcomes kept) kept state room h2)
       (room_left : is_full h 2 ≡ false)
-      (knows : MayCome (given_to state h2 told2 kept) (Revoke p (epoch_of h2 p)) h2
-      → Knows (given_to state h2 told2 kept) (Revoke p (epoch_of h2 p) ∷ h2) new)
+      (knows : MayCome (given_to state h2 told2 outcomes kept) (Revoke p (epoch_of h2 p)) h2
+      → Knows (given_to state h2 told2 outcomes kept) (Revoke p (epoch_of h2 p) ∷ h2) new)
       (h3 : List Event) (epoch : ℕ) (epoch_is : epoch ≡ epoch_of h2 p)
       (after : h3 ≡ Revoke p epoch ∷ h2) where
-    may-revoke : MayCome (given_to state h2 told2 kept) (Revoke p (epoch_of h2 p)) h2
+    may-revoke : MayCome (given_to state h2 told2 outcomes kept) (Revoke p (epoch_of h2 p)) h2
     may-revoke = record {
       legal = (
         record { after_commit = added.last; epoch_is = refl },
@@ -251,15 +252,15 @@ module _ (given : Given) (h h2 : List Event) (p : ℕ) (told : Bool) (b b' : Bro
     revoked-events : h3 ≡ Revoke p (epoch_of h2 p) ∷ h2
     revoked-events = after ∙ ap (λ (e : ℕ). Revoke p e ∷ h2) epoch_is
 
-    pub revoked-given : given_to new h3 told2 kept ≡ given_to state h2 told2 kept
-    revoked-given = given-event state new h2 h3 told2 kept (Revoke p (epoch_of h2 p)) (λ q. refl)
+    pub revoked-given : given_to new h3 told2 outcomes kept ≡ given_to state h2 told2 outcomes kept
+    revoked-given = given-event state new h2 h3 told2 outcomes kept (Revoke p (epoch_of h2 p)) (λ q. refl)
         (knows may-revoke) revoked-events
 
     pub revoked-keeps : (room1 room3 m : ℕ) → m ≡ length (open_jobs h) → m + 2 ≤ room1
         → room + 1 ≡ room1 → room3 + 1 ≡ room
-        → IsEngine (given_to new h3 told2 kept) kept new room3 h3
+        → IsEngine (given_to new h3 told2 outcomes kept) kept new room3 h3
     revoked-keeps room1 room3 m count enough less less2 =
         let jobs : length (open_jobs h2) ≡ length (open_jobs h) = ap length added.jobs in
-        keeps-event state new h2 h3 told2 kept room room3 (Revoke p (epoch_of h2 p)) keeps
+        keeps-event state new h2 h3 told2 outcomes kept room room3 (Revoke p (epoch_of h2 p)) keeps
         (λ q. refl) (knows may-revoke) (λ q. refl) refl refl
         (omega (arith, count, enough, less, less2, jobs)) revoked-events

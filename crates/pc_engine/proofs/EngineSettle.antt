@@ -23,6 +23,7 @@ use Rattle.pc_laws.specs.Lists.{In}
 use Rattle.pc_laws.proofs.JobsLaw.{job-of}
 use Rattle.pc_laws.proofs.Lists.{and-left, and-right}
 use Rattle.pc_laws.proofs.Passing.{option_cases}
+use Rattle.pc_task.specs.declared.task.Task.{Ghosts}
 use Rattle.pc_task.specs.Jobs.{Outcomes, PlainJob, due_outcome}
 use Rattle.pc_state.specs.declared.jobs.OpenJob.{OpenJob}
 use Rattle.pc_state.specs.declared.state.State.{State}
@@ -234,7 +235,8 @@ module _ (state new : State) (h h' : List Event) (told : Bool) (outcomes : Outco
         keeps (λ q. refl) knows-failed (λ q. refl) refl refl
         (omega (arith, fewer-failed, less, keeps.room)) after
 
-    pub failed-settles : Settles (Failed ready) (settle_step given h job outcome) h h'
+    pub failed-settles : {T : Type 0} {function : Ghosts T}
+        → Settles {T = T} {task = function} (Failed ready) (settle_step given h job outcome) h h'
     failed-settles = rw (current, bad) (
       (ap (λ (n : ℕ). Failed n) failed-ready),
       after ∙ ap (λ (n : ℕ). Failure job.ticket code n ∷ h) failed-ready,

@@ -13,6 +13,7 @@ use Rattle.pc_model.specs.Stored.{may_store}
 use Rattle.pc_model.specs.Known.{assigned_by}
 use Rattle.pc_model.specs.Record.{Record}
 use Rattle.pc_task.specs.declared.finished.Finished.{Finished}
+use Rattle.pc_task.specs.declared.task.Task.{Ghosts}
 use Rattle.pc_task.specs.Jobs.{Outcomes}
 use Rattle.pc_task.specs.Results.{finished_job}
 use Rattle.pc_state.specs.Calls.{IsExpected}
@@ -98,7 +99,7 @@ pub record Asks {L T : Type 0} (outcome_of : T → Outcomes) (is_told : L → Bo
 
 -- an engine whose history goes on expects the result: it is one of its function, and of a job that is
 -- out
-pub record Expects {L T : Type 0} {task : Ghosts T} (outcome_of : T → Outcomes)
-    (same : T → T → Bool) (e : EngineView L T) (done : Finished T task) : Type 0 where
+pub record Expects {L T : Type 0} {function : Ghosts T} (outcome_of : T → Outcomes)
+    (same : T → T → Bool) (e : EngineView L T) (done : Finished T function) : Type 0 where
   pub job : IsExpected (given_of outcome_of e) e.journal.events (finished_job done)
   pub task : same done.task.now e.task ≡ true

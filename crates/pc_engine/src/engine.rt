@@ -9,7 +9,6 @@ ghost use Rattle.pc_engine.specs.Effect.{last_offset};
 use crate::fault::EngineFault;
 use crate::polls::unpressed;
 use crate::settled::Settled;
-use pc_batch::RecordRef;
 use pc_broker_log::BrokerLogs;
 use pc_commit::{commit_of, resume};
 use pc_model::limits::{MAX_EVENTS, MAX_RECORDS};
@@ -95,7 +94,7 @@ impl<'a, L: Link> Engine<'a, L, RuleTask> {
 }
 
 impl<'a, L: Link, T: Task> Engine<'a, L, T> {
-    ghost use Rattle.std.specs.Prelude.{◌≡◌, ◌≤◌, ◌<◌, ◌+◌, ◌^◌, ◌⊎◌, ◌↔◌, ◌&&◌, ◌==◌, IsTrue, ℕ, true, false, [], IfOk, IfErr, IsOk, OnOk, OnErr, Err, Ok, Some, None, Result, if◌then◌else◌, length};
+    ghost use Rattle.std.specs.Prelude.{◌≡◌, ◌≤◌, ◌<◌, ◌+◌, ◌^◌, ◌⊎◌, ◌↔◌, ◌&&◌, ◌==◌, IsTrue, ℕ, true, false, [], IfOk, IfErr, IfSome, IsOk, OnOk, OnErr, Err, Ok, Some, None, Result, if◌then◌else◌, length};
     ghost use Rattle.pc_model.specs.declared.commit.Commit.{Commit};
     ghost use Rattle.pc_model.specs.Known.{commit_of};
     ghost use Rattle.pc_offset_client.specs.declared.fault.ClientFault.{ClientFault};
@@ -272,12 +271,13 @@ impl<'a, L: Link, T: Task> Engine<'a, L, T> {
         unpressed(&self.state, part, first)?;
         self.has_room(1)?;
         self.journal.reserve(self.state.outstanding() + 1)?;
-        let records = self.state.next_records(self.alloc, part, max)?;
-        self.state.poll(self.alloc, part, &records)?;
-        let count = records.len() as u32;
-        let last = last_of(&records);
-        self.journal.push(Event::Poll { part, count, last });
-        Ok(count)
+        let taken = self.state.poll(self.alloc, part, max)?;
+        self.journal.push(Event::Poll {
+            part,
+            count: taken.count,
+            last: taken.last,
+        });
+        Ok(taken.count)
     }
 
     /// Takes the next record for a worker, below 256, and adds Dispatch. None exactly where no record
@@ -483,7 +483,7 @@ impl<'a, L: Link, T: Task> Engine<'a, L, T> {
     }
 
     // What is known of a part with a log.
-    pub(crate) fn part(&self, part: u32) -> Result<&PartState, EngineFault>
+    pub(crate) fn part(&self, part: u32) -> Result<&PartState<'a>, EngineFault>
         ensures knows { IfOk result (λ state. has_log (given_of T.outcome self.now) part ≡ true
             × PartKeeps (given_of T.outcome self.now) self.now.journal.events part state.now) }
         ensures unknown { IfErr result (λ e. e ≡ UnknownPart × has_log (given_of T.outcome self.now) part ≡ false) }
@@ -548,15 +548,5 @@ fn lasting(fault: ClientFault) -> Result<ClientFault, AllocError>
     match fault {
         ClientFault::NoMemory => Err(AllocError),
         fault => Ok(fault),
-    }
-}
-
-/// The offset of the last record, and 0 where there is none.
-fn last_of(records: &[RecordRef<'_>]) -> u64
-    ensures { (rs : List Record) → map plain records.now ≡ rs → result ≡ last_offset rs }
-{
-    match records.last() {
-        Some(record) => record.offset,
-        None => 0,
     }
 }

@@ -15,5 +15,4 @@ pub mod ShardsDone
 pub mod ShardsAdded
 pub mod CutEntries
 pub mod ShardsCut
-pub mod AddedAll
 pub mod OpenEntriesLaws

@@ -1,8 +1,6 @@
 -- The polled, incomplete records of the parts, and which of them may be dispatched by the ordering
 -- keys.
 use Rattle.std.specs.Prelude.{ℕ, ◌+◌, pos, ◌≡◌, Bool, true, false, not, ◌&&◌, ◌==◌, nat_lt, if◌then◌else◌, List, map, filter, [], slice_index_or, Option, None}
-use Rattle.std.specs.Borrow.{Bor}
-use Rattle.std.specs.Option.{option_copied}
 use Rattle.std.specs.List.{find, list_any, list_all}
 use Rattle.pc_model.specs.declared.choices.Order.{Order}
 use Rattle.pc_model.specs.Record.{Record}
@@ -33,10 +31,6 @@ bare_record o key = record
 -- the entry of a record that did not fail and is not busy
 abbrev pub new_entry : Record → Entry
 new_entry r = record { «record» = r; failures = 0; is_busy = false }
-
--- the entries of offsets and lent keys, in their order
-abbrev pub new_entries : List (ℕ × Option (Bor (List ℕ))) → List Entry
-new_entries rs = map (λ r. new_entry (bare_record r.0 (option_copied r.1))) rs
 
 -- the ordering key of an entry of the part
 abbrev pub key_of : Order → ℕ → Entry → OrderingKey

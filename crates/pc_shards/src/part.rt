@@ -56,8 +56,8 @@ impl<'a> Part<'a> {
         }
     }
 
-    /// Makes room for one more entry.
-    pub fn reserve(&mut self) -> Result<(), AllocError>
+    /// Makes room for `more` entries, and for one at least.
+    pub fn reserve(&mut self, more: u32) -> Result<(), AllocError>
         ensures entries { self.new.entries.items ≡ self.old.entries.items }
         ensures queues { self.new.queues ≡ self.old.queues }
         ensures ready { self.new.ready.offsets ≡ self.old.ready.offsets }
@@ -65,8 +65,9 @@ impl<'a> Part<'a> {
         ensures room { OnOk result (deque_len self.new.entries < self.new.ready.places) }
         ensures capacity { self.old.ready.places ≤ self.new.ready.places }
     {
-        self.entries.reserve(1)?;
-        self.ready.reserve(self.entries.len() + 1)
+        let more = more.max(1) as usize;
+        self.entries.reserve(more)?;
+        self.ready.reserve(self.entries.len() + more)
     }
 
     /// Adds an entry at the end, for which room was made in both vectors. Fails where memory runs

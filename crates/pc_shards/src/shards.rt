@@ -1,14 +1,13 @@
 //! The shards. Clauses see the order, and the entries of each part in the order in which they were
 //! added.
 
-ghost use Rattle.std.specs.Prelude.{◌≡◌, ℕ, ◌+◌, ◌<◌, ◌^◌, ◌++◌, ◌∷◌, [], false, true, OnErr, OnOk, ◌-◌, length, map, option_map, take};
+ghost use Rattle.std.specs.Prelude.{◌≡◌, ℕ, ◌+◌, ◌<◌, ◌^◌, ◌++◌, ◌∷◌, [], false, true, OnErr, OnOk, ◌-◌, length, option_map, take};
 ghost use Rattle.std.specs.List.{All};
 ghost use Rattle.std.specs.Option.{option_copied};
 ghost use Rattle.pc_batch.specs.Record.{plain};
 ghost use Rattle.pc_shards.specs.Part.{EachAt, plain as plain_entry};
-ghost use Rattle.pc_shards.specs.Rising.{Rises};
 ghost use Rattle.pc_shards.specs.Shards.{HasRoomAt, KeepsParts};
-ghost use Rattle.pc_shards.specs.Entries.{BusyAreFirst, ChangesNothing, ChangesOnly, bare_record, entry_at, has_entry_at, is_first_offset, least_ready_of, new_entries, new_entry, of_part, with_busy, with_failure, without};
+ghost use Rattle.pc_shards.specs.Entries.{BusyAreFirst, ChangesNothing, ChangesOnly, bare_record, entry_at, has_entry_at, is_first_offset, least_ready_of, new_entry, of_part, with_busy, with_failure, without};
 
 use crate::part::{EntryRef, Part};
 use crate::shard_key::ShardKey;
@@ -81,34 +80,17 @@ impl<'a> Shards<'a> {
         ensures others { OnOk result (ChangesOnly part self.old self.new) }
         ensures stays { OnErr result (ChangesNothing self.old self.new) }
     {
-        make_room(&mut self.parts, self.alloc, part as usize)?;
+        make_room(&mut self.parts, self.alloc, part as usize, 1)?;
         self.parts[part as usize].add(self.order, added)?;
         Ok(())
     }
 
-    /// Adds records that were polled and are incomplete, an offset and a key each, in this order
-    /// and above all of their part that are there: all of them, or none where memory runs out. None
-    /// is busy.
-    pub fn add_all(
-        &mut self,
-        part: u32,
-        records: &[(u64, Option<&'a [u8]>)],
-    ) -> Result<(), AllocError>
-        requires rises { Rises (map (λ r. r.0) records.now) }
-        requires above { All (λ r. All (λ e. e.record.offset < r.0) (of_part self.old part)) records.now }
-        ensures added { OnOk result
-            (of_part self.new part ≡ of_part self.old part ++ new_entries records.now) }
-        ensures others { OnOk result (ChangesOnly part self.old self.new) }
-        ensures stays { OnErr result (ChangesNothing self.old self.new) }
+    /// Makes room for `more` entries of the part. A call of `add_record` makes room for its own, but
+    /// many of them move the entries fewer times after this. Fails where memory runs out.
+    pub fn reserve(&mut self, part: u32, more: u32) -> Result<(), AllocError>
+        ensures { ChangesNothing self.old self.new }
     {
-        let count = self.count(part);
-        for (offset, key) in records {
-            if let Err(error) = self.add(part, *offset, *key) {
-                self.truncate(part, count);
-                return Err(error);
-            }
-        }
-        Ok(())
+        make_room(&mut self.parts, self.alloc, part as usize, more)
     }
 
     /// Takes out all entries of the part but the first `count`, busy or not. Takes no memory.
@@ -226,13 +208,18 @@ impl<'a> Shards<'a> {
     }
 }
 
-/// Makes room for one more entry of the part at this place.
-fn make_room<'a>(parts: &mut Vec<Part<'a>>, alloc: Global, at: usize) -> Result<(), AllocError>
+/// Makes room for `more` entries of the part at this place, and for one at least.
+fn make_room<'a>(
+    parts: &mut Vec<Part<'a>>,
+    alloc: Global,
+    at: usize,
+    more: u32,
+) -> Result<(), AllocError>
     ensures kept { KeepsParts parts.old.items parts.new.items }
     ensures made { OnOk result (HasRoomAt at parts.new.items) }
 {
     'grow: while parts.as_slice().len() <= at {
         parts.push(Part::new(alloc))?;
     }
-    parts[at].reserve()
+    parts[at].reserve(more)
 }

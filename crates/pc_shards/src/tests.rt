@@ -119,8 +119,7 @@ fn cut_back_to_each_length(rt: HostRuntime) -> Result<(), Fail> {
         (Order::Partition, 3, Some(4), None, Some(6)),
         (Order::Partition, 1, Some(4), None, None),
     ] {
-        let mut shards = Shards::new(rt.alloc(), order);
-        shards.add_all(0, &[(4, Some(b"a")), (6, None), (7, Some(b"a"))])?;
+        let mut shards = three_apart(rt.alloc(), order)?;
         shards.truncate(0, len);
         assert_eq!(rt; shards.count(0), len);
         let least = busy_next(&mut shards);
@@ -148,6 +147,17 @@ fn three(
     shards.add(0, 0, first)?;
     shards.add(0, 1, second)?;
     shards.add(0, 2, third)?;
+    Ok(shards)
+}
+
+/// Part 0 with the offsets 4, 6 and 7, for which room was made before. The first and the last have
+/// the same key.
+fn three_apart(alloc: Global, order: Order) -> Result<Shards<'static>, AllocError> {
+    let mut shards = Shards::new(alloc, order);
+    shards.reserve(0, 3)?;
+    shards.add(0, 4, Some(b"a"))?;
+    shards.add(0, 6, None)?;
+    shards.add(0, 7, Some(b"a"))?;
     Ok(shards)
 }
 

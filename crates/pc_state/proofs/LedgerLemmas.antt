@@ -16,7 +16,9 @@ use Rattle.pc_laws.proofs.Lists.{true-not-false}
 use Rattle.pc_laws.proofs.PositionLaw.{held_apart}
 use Rattle.pc_state.specs.declared.ledger.Ledger.{Ledger}
 use Rattle.pc_state.specs.declared.ledger.PartLedger.{PartLedger}
+use Rattle.pc_state.specs.declared.state.State.{State}
 use Rattle.pc_state.specs.Ledger.{Counts, CountsPart}
+use Rattle.pc_state.specs.State.{Knows}
 
 -- the position of the first of some commits
 abbrev pub first_position : List Commit → Option ℕ
@@ -276,3 +278,8 @@ module _ (given : Given) (h : List Event) (t : ℕ) (answer : List ℕ) (job : J
       })
       (successes ∙ ap (λ (n : ℕ). n + 1) counts.successes) (drains ∙ counts.drains)
       (ended ∙ counts.ended) counts
+
+-- each part has its place in the ledger
+pub ledger-below : (given : Given) (h : List Event) (s : State) (p : ℕ) → Knows given h s
+    → p < length given.logs → p < length s.ledger.parts.items
+ledger-below given h s p knows below = let same = knows.ledger.count in omega (arith, below, same)

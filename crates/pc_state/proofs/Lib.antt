@@ -24,3 +24,4 @@ pub mod FailureLemmas
 pub mod FailureTests
 pub mod DueLemmas
 pub mod TickLemmas
+pub mod TakeLemmas

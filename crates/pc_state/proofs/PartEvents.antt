@@ -23,6 +23,8 @@ use Rattle.pc_model.proofs.ListLemmas.{same_number}
 use Rattle.pc_model.proofs.SamePart.{other_part}
 use Rattle.pc_laws.proofs.PositionLaw.{held_apart}
 use Rattle.pc_commit.specs.Resume.{resumed_marks}
+use Rattle.pc_cursor.specs.Cursor.{not_below}
+use Rattle.pc_cursor.specs.declared.cursor.Cursor.{Cursor}
 use Rattle.pc_partition.specs.declared.state.PartitionState.{PartitionState}
 use Rattle.pc_partition.specs.Window.{StandsFor}
 use Rattle.pc_shards.specs.OpenEntries.{entry_of}
@@ -118,14 +120,15 @@ waiting-assign given h p epoch position text q free = elim (cases_Bool (p == q))
 ]
 
 pub knows-assigned : (given : Given) (h : List Event) (old new : State) (p : ℕ) (stored : Commit)
-    (part : PartState) (window : PartitionState) → Knows given h old
+    (part : PartState) (window : PartitionState) (rest : Cursor) → Knows given h old
     → MayCome given (Assign p (epoch_of h p + 1) stored.position stored.map) h
     → p < length given.logs → PutsPart old new p part → part.epoch ≡ epoch_of h p + 1
-    → part.held ≡ Some (record { window = window; next = stored.position; size = None })
+    → part.held ≡ Some (record { window = window; rest = rest; size = None })
+    → rest.left ≡ not_below stored.position (records_of given p)
     → StandsFor window.window stored.position 0 (resumed_marks stored (records_of given p))
     → Counts given (Assign p (epoch_of h p + 1) stored.position stored.map ∷ h) new.ledger
     → Knows given (Assign p (epoch_of h p + 1) stored.position stored.map ∷ h) new
-knows-assigned given h old new p stored part window knows may below puts epoch held stands counts =
+knows-assigned given h old new p stored part window rest knows may below puts epoch held left stands counts =
     knows-part given h (Assign p (epoch_of h p + 1) stored.position stored.map) old new p part knows may
     puts below (record {
       epoch = epoch ∙ sym (epoch_of-assign h p (epoch_of h p + 1) stored.position stored.map);
@@ -142,7 +145,7 @@ knows-assigned given h old new p stored part window knows may below puts epoch h
             (subst (λ (c : Commit). StandsFor window.window c.position 0
             (resumed_marks stored (records_of given p)))
             (sym (assigned_commit-assign given h p (epoch_of h p + 1) stored.position stored.map)) stands));
-        unpolled = unpolled-begin given h p (epoch_of h p + 1) stored.position stored.map;
+        unpolled = unpolled-begin given h p (epoch_of h p + 1) stored.position stored.map ∙ sym left;
         size = sym (size-assign h p (epoch_of h p + 1) stored.position stored.map);
       });
     })

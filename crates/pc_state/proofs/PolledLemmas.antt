@@ -15,35 +15,30 @@ use Rattle.pc_model.specs.Jobs.{Job, open_jobs}
 use Rattle.pc_model.specs.Epochs.{epoch_of, is_current, is_held}
 use Rattle.pc_model.specs.Known.{begin_of, is_complete, is_job_at, known_records, marks_of, polled_count, polled_records, records_from_begin, unpolled_records}
 use Rattle.pc_model.specs.Lawful.{IsLegal}
-use Rattle.pc_model.proofs.KnownLaws.{polled_records-poll}
-use Rattle.pc_model.proofs.ListLemmas.{map-map}
+use Rattle.pc_model.proofs.KnownLaws.{polled_records-poll, unpolled_records-poll}
 use Rattle.pc_model.proofs.SamePart.{other_part}
 use Rattle.pc_model.proofs.SetupLaws.{setup-within}
 use Rattle.pc_model.specs.Retry.{failures_of, now_of, ready_of}
 use Rattle.pc_laws.specs.Lists.{In}
-use Rattle.pc_laws.proofs.Lists.{In-filtered, In-list_any, In-map, In-mapped, and-left, and-right, true-not-false}
+use Rattle.pc_laws.proofs.Lists.{In-filtered, In-list_any, In-mapped, and-left, and-right, true-not-false}
 use Rattle.pc_laws.proofs.Rising.{take-In}
 use Rattle.pc_laws.proofs.Blocked.{drop-above}
 use Rattle.pc_laws.proofs.PositionLaw.{from_begin-rises}
 use Rattle.pc_laws.proofs.KeptLaw.{is_kept}
 use Rattle.pc_laws.proofs.FailedLaw.{unpolled-unfailed}
-use Rattle.pc_broker_log.proofs.NextRecords.{unpolled-poll}
-use Rattle.pc_cursor.specs.Cursor.{not_below}
 use Rattle.pc_partition.specs.Window.{AreNext, RisesFrom, StandsFor, Window, open_polled, with_polled}
-use Rattle.pc_batch.specs.declared.record.RecordRef.{RecordRef}
-use Rattle.pc_batch.specs.Record.{plain}
-use Rattle.pc_shards.specs.Entries.{ChangesOnly, Entry, of_part}
+use Rattle.pc_shards.specs.Entries.{ChangesNothing, ChangesOnly, Entries, Entry, of_part}
 use Rattle.pc_shards.specs.OpenEntries.{entry_of, open_entries}
 use Rattle.pc_state.specs.declared.part.HeldPart.{HeldPart}
 use Rattle.pc_state.specs.declared.part.PartState.{PartState}
 use Rattle.pc_state.specs.declared.state.State.{State}
-use Rattle.pc_state.specs.Polls.{AreNextRecords, IsPolled, behind_last, is_open_in, new_entries}
+use Rattle.pc_state.specs.Polls.{AreNextRecords, IsPolled, is_open_in, new_entries}
 use Rattle.pc_state.proofs.LedgerLemmas.{counts-poll}
 use Rattle.pc_state.specs.State.{Knows, KnowsHeld, MayCome, PartKeeps, entries_of, is_early, is_kept_back, is_out, is_spent, is_waiting, waiting_of}
 use Rattle.pc_state.proofs.OpenJobsLemmas.{AreOpen-along}
 use Rattle.pc_state.proofs.PartEvents.{held-has_log, log-below}
-use Rattle.pc_state.proofs.PollLemmas.{last-next_offsets, length-next_offsets, next_offsets, poll-within, window-next, window-open, window-poll, window-rises}
-use Rattle.pc_state.proofs.QueryLemmas.{In-All, legal-logs, log-rises}
+use Rattle.pc_state.proofs.PollLemmas.{next_offsets, poll-within, window-next, window-open, window-poll, window-rises}
+use Rattle.pc_state.proofs.QueryLemmas.{In-All}
 use Rattle.pc_state.proofs.StateLemmas.{AreWaiting-along, each-set, entries-held, entries-same, is_out-same, waiting-held, waiting-same}
 
 -- ---- the records that a poll takes
@@ -88,7 +83,7 @@ filter-map-In f g e k (r ∷ rs) same =
     cases true rest first = ap (λ x. x ∷ map e (filter f rs)) first ∙ ap (λ xs. k r ∷ xs) rest
     cases false rest first = rest
 
-filter-append : (f : Record → Bool) (xs ys : List Record) → filter f (xs ++ ys) ≡ filter f xs ++ filter f ys
+pub filter-append : (f : Record → Bool) (xs ys : List Record) → filter f (xs ++ ys) ≡ filter f xs ++ filter f ys
 filter-append f [] ys = refl
 filter-append f (x ∷ xs) ys = elim (f x) as (λ b. cond b (x ∷ filter f (xs ++ ys)) (filter f (xs ++ ys))
     ≡ cond b (x ∷ filter f xs) (filter f xs) ++ filter f ys) [
@@ -99,21 +94,6 @@ filter-append f (x ∷ xs) ys = elim (f x) as (λ b. cond b (x ∷ filter f (xs 
 -- the entry of a record that was just polled
 abbrev fresh : Record → Entry
 fresh r = record { «record» = r; failures = 0; is_busy = false }
-
--- the entries of records that are kept by their offsets
-entries-of-next : (f : ℕ → Bool) (records : List RecordRef) (rs : List Record)
-    → map plain records ≡ rs
-    → new_entries (filter (λ r. f r.offset) records) ≡ map fresh (filter (λ r. f r.offset) rs)
-entries-of-next f records rs same =
-    along f records ∙ ap (λ (xs : List Record). map fresh (filter (λ r. f r.offset) xs)) same
-  where
-    along : (f : ℕ → Bool) (records : List RecordRef) → new_entries (filter (λ r. f r.offset) records)
-        ≡ map fresh (filter (λ r. f r.offset) (map plain records))
-    along f [] = refl
-    along f (x ∷ xs) = elim (cases_Bool (f x.offset)) [
-      | inl kept ↦ rw (kept, along f xs) refl
-      | inr out ↦ rw (out, along f xs) refl
-    ]
 
 -- ---- the entries after a poll
 
@@ -173,7 +153,7 @@ module _ (given : Given) (h : List Event) (p count last : ℕ) (legal : IsLegal 
       not-not true b is = rw is refl
       not-not false b is = rw is refl
 
-  entries-poll : (records : List RecordRef) → map plain records ≡ next
+  entries-poll : (records : List Record) → records ≡ next
       → entries_of given h p ++ new_entries (filter (λ r. is_open_in w r.offset) records)
       ≡ entries_of given (Poll p count last ∷ h) p
   unfolding entries_of is_kept_back is_spent is_early is_out is_complete
@@ -183,7 +163,7 @@ module _ (given : Given) (h : List Event) (p count last : ℕ) (legal : IsLegal 
       ap (λ (es : List Entry). es ++ new_entries (filter (λ r. is_open_in w r.offset) records)) old
       ∙ ap (λ (es : List Entry). open_entries given h p (λ r. is_kept_back given h p r.offset)
       (λ r. failures_of h p r.offset) ++ es)
-      (entries-of-next (is_open_in w) records next are ∙ next-open)
+      (ap (λ (rs : List Record). new_entries (filter (λ r. is_open_in w r.offset) rs)) are ∙ next-open)
       ∙ sym (
       ap (λ (rs : List Record). map (entry_of (λ r. is_kept_back given h p r.offset)
       (λ r. failures_of h p r.offset)) rs)
@@ -248,22 +228,20 @@ incomplete-few marks = omega (
 )
 
 -- the offsets of the records are the next ones of the part
-next-is : (given : Given) (h : List Event) (p : ℕ) (records : List RecordRef)
+next-is : (given : Given) (h : List Event) (p : ℕ) (records : List Record)
     → AreNextRecords given h p records
     → map (λ r. r.offset) records ≡ next_offsets given h p (length records)
-next-is given h p records are =
-    sym (map-map (λ (r : Record). r.offset) plain records)
-    ∙ ap (λ (rs : List Record). map (λ r. r.offset) rs) are
+next-is given h p records are = ap (λ (rs : List Record). map (λ r. r.offset) rs) are
 
 -- a record that is to be polled was not polled
-In-next : (given : Given) (h : List Event) (p : ℕ) (records : List RecordRef)
-    → AreNextRecords given h p records → (r : RecordRef) → In r records
+In-next : (given : Given) (h : List Event) (p : ℕ) (records : List Record)
+    → AreNextRecords given h p records → (r : Record) → In r records
     → (u : Record) × In u (drop (polled_count h p) (records_from_begin given h p)) × (u.offset ≡ r.offset)
 unfolding unpolled_records
 In-next given h p records are r i =
-    let next : In (plain r) (take (length records) (unpolled_records given h p)) =
-    subst (λ (rs : List Record). In (plain r) rs) are (In-map plain r records i) in
-    (plain r, take-In (length records) (plain r) (unpolled_records given h p) next, refl)
+    let next : In r (take (length records) (unpolled_records given h p)) =
+    subst (λ (rs : List Record). In r rs) are i in
+    (r, take-In (length records) r (unpolled_records given h p) next, refl)
 
 -- an entry is of a polled record
 entry-polled : (given : Given) (h : List Event) (p : ℕ) → is_held h p ≡ true → (e : Entry)
@@ -285,13 +263,8 @@ flip p q apart = elim (cases_Bool (p == q)) [
   | inr other ↦ other
 ]
 
-offset-of : (o : Option Record) (last : ℕ) → option_map (λ (r : Record). r.offset) o ≡ Some last
-    → (r : Record) × (o ≡ Some r) × (r.offset ≡ last)
-offset-of None last is = cc
-offset-of (Some r) last is = (r, refl, cc)
-
 module _ (given : Given) (h : List Event) (old : State) (p last : ℕ)
-    (records : List RecordRef) (knows : Knows given h old)
+    (records : List Record) (knows : Knows given h old)
     (held : is_held h p ≡ true) (are : AreNextRecords given h p records) (part : HeldPart)
     (known : KnowsHeld given h p part) where
   -- what the state of the part wants to know
@@ -329,7 +302,7 @@ module _ (given : Given) (h : List Event) (old : State) (p last : ℕ)
       )
 
   pub poll-above : All (λ r. All (λ (e : Entry). e.record.offset < r.offset) (of_part old.shards p)) records
-  poll-above = In-All (λ (r : RecordRef). All (λ (e : Entry). e.record.offset < r.offset) (of_part old.shards p)) records
+  poll-above = In-All (λ (r : Record). All (λ (e : Entry). e.record.offset < r.offset) (of_part old.shards p)) records
       (λ r i. In-All (λ (e : Entry). e.record.offset < r.offset) (of_part old.shards p) (λ e k.
       let next = In-next given h p records are r i in
       let entry : In e (entries_of given h p) = subst (λ (es : List Entry). In e es) (knows.entries p) k in
@@ -342,27 +315,6 @@ module _ (given : Given) (h : List Event) (old : State) (p last : ℕ)
     le : length records ≤ length (unpolled_records given h p)
     le = poll-within given h p (length records) last may.legal.0
 
-    polled-next : (next : ℕ) → next ≡ behind_last part.next (map (λ r. r.offset) records)
-        → unpolled_records given (Poll p (length records) last ∷ h) p ≡ not_below next (records_of given p)
-    polled-next next is =
-        let at = offset-of _ last may.legal.0.last_is in
-        let r = at.0 in
-        let taken : slice_get (next_offsets given h p (length records)) (length records - 1) ≡ Some last =
-        last-next_offsets given h p (length records) may.legal.0.some le ∙ may.legal.0.last_is in
-        let behind : next ≡ suc r.offset = is
-        ∙ ap (λ (os : List ℕ). behind_last part.next os) (next-is given h p records are)
-        ∙ ap (λ (n : ℕ). option_map_or (λ o. o + 1) (slice_get (next_offsets given h p (length records)) (n - 1)) part.next)
-        (length-next_offsets given h p (length records) le)
-        ∙ ap (λ (o : Option ℕ). option_map_or (λ o. o + 1) o part.next) taken
-        ∙ more last r.offset (sym at.2) in
-        unpolled-poll given h p (length records) last part.next r
-        (log-rises given.logs p (legal-logs given h knows.legal)) known.unpolled may.legal.0.some
-        (ap (λ (rs : List Record). slice_get rs (length records - 1)) (sym known.unpolled) ∙ at.1)
-        ∙ ap (λ (n : ℕ). not_below n (records_of given p)) (sym behind)
-      where
-        more : (a b : ℕ) → a ≡ b → a + 1 ≡ suc b
-        more a b is = omega (arith, is)
-
     pub polled-part : (new : HeldPart) → IsPolled (map (λ r. r.offset) records) part new
         → KnowsHeld given (Poll p (length records) last ∷ h) p new
     polled-part new polled = record {
@@ -371,7 +323,10 @@ module _ (given : Given) (h : List Event) (old : State) (p last : ℕ)
           (subst (λ (os : List ℕ). StandsFor new.window.window (begin_of h p) (polled_count h p + length os)
           (with_polled (polled_count h p) (marks_of given h p) os)) (next-is given h p records are)
           (polled.window (begin_of h p) (polled_count h p) (marks_of given h p) known.stands poll-are));
-      unpolled = polled-next new.next polled.next;
+      unpolled = unpolled_records-poll given h p (length records) last
+          ∙ ap (drop (length records)) known.unpolled
+          ∙ ap (λ (n : ℕ). drop n part.rest.left)
+          (sym (length-map {B = ℕ} records (λ r. r.offset))) ∙ sym polled.rest;
       size = polled.size ∙ known.size;
     }
 
@@ -444,3 +399,25 @@ module _ (given : Given) (h : List Event) (old : State) (p last : ℕ)
               waiting-same given h (Poll p (length records) last ∷ h) q same refl
               (λ held_q o. is_out-same h (Poll p (length records) last ∷ h) q o refl same.epoch)
         ]
+
+    -- the same where room was made before
+    pub knows-taken : (mid : Entries) (new : State) (epoch count : ℕ) (polled : HeldPart)
+        → ChangesNothing old.shards mid → count ≡ length records → epoch ≡ epoch_of h p
+        → new.setup.now ≡ old.setup.now → new.logs.now ≡ old.logs.now
+        → new.parts.items ≡ set old.parts.items p (record { epoch = epoch; held = Some polled })
+        → of_part new.shards p ≡ of_part mid p
+        ++ new_entries (filter (λ r. is_open_in part.window.window r.offset) records)
+        → ChangesOnly p mid new.shards → new.retries ≡ old.retries → new.jobs ≡ old.jobs
+        → new.clock ≡ old.clock → new.dispatched ≡ old.dispatched
+        → new.last ≡ old.last → IsPolled (map (λ r. r.offset) records) part polled
+        → Knows given (Poll p count last ∷ h) new
+    knows-taken mid new epoch count polled nothing many epoch_is setup logs items added others retries
+        jobs now dispatched last_same is = subst (λ (n : ℕ). Knows given (Poll p n last ∷ h) new) (sym many)
+        (knows-polled new epoch polled epoch_is setup logs items
+        (added ∙ ap (λ (es : List Entry). es
+        ++ new_entries (filter (λ r. is_open_in part.window.window r.offset) records)) (nothing.each p))
+        (record {
+          order = others.order ∙ nothing.order;
+          others = λ q apart. others.others q apart ∙ nothing.each q;
+        })
+        retries jobs now dispatched last_same is)

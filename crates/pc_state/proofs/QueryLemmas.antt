@@ -1,13 +1,12 @@
 -- What a state answers of a part.
-use Rattle.std.proofs.Common.{◌≡◌, ℕ, zero, suc, ◌+◌, ◌-◌, ◌<◌, ◌≤◌, Bool, true, false, cond, List, [], ◌∷◌, map, take, length, replicate, Option, Some, None, Result, Ok, Err, OnOk, refl, sym, ap, subst, ◌∙◌, arith, inl, inr, get_or}
+use Rattle.std.proofs.Common.{◌≡◌, ℕ, zero, suc, ◌+◌, ◌-◌, ◌<◌, ◌≤◌, Bool, true, false, cond, List, [], ◌∷◌, map, take, drop, length, replicate, Option, Some, None, Result, Ok, Err, IfOk, OnOk, refl, sym, ap, subst, ◌∙◌, arith, inl, inr, get_or}
 use Rattle.std.specs.Prelude.{◌^◌, filter, if◌then◌else◌, is_some, nat_le, nat_lt, option_map, slice_get, unwrap_or}
 use Rattle.std.specs.Option.{option_flatten}
-use Rattle.std.specs.List.{AllByRecursion, IsDistinct, list_all}
+use Rattle.std.specs.List.{IsDistinct, list_all, take_while}
 use Rattle.pc_laws.specs.Lists.{In}
-use Rattle.pc_shards.specs.Rising.{Rises}
-use Rattle.std.proofs.lemmas.Bool.{cases_Bool, le-leb, ltb-true}
+use Rattle.std.proofs.lemmas.Bool.{cases_Bool, le-leb, leb-true, ltb-true}
 use Rattle.std.proofs.lemmas.List.{get_or-replicate, length-replicate}
-use Rattle.std.proofs.lemmas.List.Sums.{sum_by-cons}
+use Rattle.std.proofs.lemmas.List.Sums.{sum_by-cons, take_while-cons}
 use Rattle.pc_model.specs.declared.limits.TheConstants.{MAX_PARTS, MAX_RECORDS}
 use Rattle.pc_model.specs.declared.setup.Setup.{Setup}
 use Rattle.pc_model.specs.declared.event.Event.{Event}
@@ -15,23 +14,20 @@ use Rattle.pc_model.specs.Record.{Record}
 use Rattle.pc_model.specs.Given.{Given, has_log, records_of, rises_from}
 use Rattle.pc_model.specs.Jobs.{open_jobs}
 use Rattle.pc_model.specs.Epochs.{is_held}
-use Rattle.pc_model.specs.Known.{high_of, unpolled_records}
+use Rattle.pc_model.specs.Known.{begin_of, high_of, polled_count, records_from_begin, unpolled_records}
 use Rattle.pc_model.specs.Lawful.{IsLegal}
 use Rattle.pc_laws.proofs.Lists.{and-left, and-right, true-not-false}
 use Rattle.pc_laws.proofs.HighLaw.{blocked_has_high}
-use Rattle.std.proofs.lemmas.List.{length-map}
 use Rattle.pc_model.specs.Pressure.{is_blocked}
-use Rattle.pc_batch.specs.declared.record.RecordRef.{RecordRef}
-use Rattle.pc_batch.specs.Record.{plain}
-use Rattle.pc_broker_log.proofs.PolledLemmas.{rises-filter}
-use Rattle.pc_partition.specs.Window.{RisesFrom}
+use Rattle.pc_cursor.proofs.BatchFacts.{rises-lower}
+use Rattle.pc_broker_log.proofs.PolledLemmas.{rises-filter, upto-while}
 use Rattle.pc_state.specs.Calls.{next_records, pollable_records}
-use Rattle.pc_cursor.specs.Cursor.{not_below}
 use Rattle.pc_retry.specs.declared.queue.Retry.{Retry}
 use Rattle.pc_shards.specs.Entries.{of_part}
-use Rattle.pc_broker_log.specs.Logs.{log_at, record_total, upto}
+use Rattle.pc_broker_log.specs.Logs.{first_upto, record_total, upto}
 use Rattle.pc_state.specs.declared.part.PartState.{PartState}
 use Rattle.pc_state.specs.declared.state.State.{State}
+use Rattle.pc_state.specs.Ledger.{Counts}
 use Rattle.pc_state.specs.State.{Knows, PartKeeps, entries_of, same_place, waiting_of}
 use Rattle.pc_state.proofs.RetryLemmas.{distinct-none}
 use Rattle.pc_state.specs.OpenJobs.{AreOpen}
@@ -47,21 +43,20 @@ unknown-free given h p legal unknown = elim (cases_Bool (is_held h p)) [
 
 -- what was read of a part's log
 pub read-of : (o : Option (List Record)) (f : List Record → List Record) (rs : List Record)
-    → option_map f o ≡ Some rs → rs ≡ f (unwrap_or o [])
+    → Some rs ≡ option_map f o → rs ≡ f (unwrap_or o [])
 read-of None f rs is = cc
 read-of (Some log) f rs is = cc
 
+-- a log that is there is read
+pub read-none : (o : Option (List Record)) (f : List Record → List Record) → None ≡ option_map f o
+    → is_some o ≡ true → ⊥
+read-none None f is some = cc
+read-none (Some log) f is some = cc
+
 -- the first record that was not polled
-pub first-left : (given : Given) (h : List Event) (p : ℕ) (next : ℕ) (rs rest : List Record) (r : Record)
-    → unpolled_records given h p ≡ not_below next (records_of given p)
-    → rs ≡ take 1 (not_below next (records_of given p)) → rs ≡ r ∷ rest
-    → Some r.offset ≡ option_map (λ (r : Record). r.offset) (slice_get (unpolled_records given h p) 0)
-first-left given h p next rs rest r left was is = rw left (first (not_below next (records_of given p)) (sym is ∙ was))
-  where
-    first : (all : List Record) → (r ∷ rest) ≡ take 1 all
-        → Some r.offset ≡ option_map (λ (r : Record). r.offset) (slice_get all 0)
-    first [] is = cc
-    first (x ∷ xs) is = let same : r ≡ x = cc in ap (λ (y : Record). Some y.offset) same
+pub first-left : (unpolled left rest : List Record) (r : Record) → unpolled ≡ left → left ≡ r ∷ rest
+    → Some r.offset ≡ option_map (λ (r : Record). r.offset) (slice_get unpolled 0)
+first-left unpolled left rest r same is = rw (same, is) refl
 
 -- no log has more records than all together
 log-total : (logs : List (Option (List Record))) (p : ℕ)
@@ -78,10 +73,10 @@ pub knows-start : (given : Given) (s : State) → given.setup ≡ s.setup.now �
     → s.parts.items ≡ replicate (length s.logs.now) (record { epoch = 0; held = None })
     → s.shards.order ≡ s.setup.now.settings.order → ((p : ℕ) → of_part s.shards p ≡ [])
     → s.retries.retries ≡ [] → ((h : List Event) → open_jobs h ≡ [] → AreOpen h s.jobs) → s.clock ≡ 0
-    → s.dispatched ≡ 0 → s.last ≡ None
+    → s.dispatched ≡ 0 → s.last ≡ None → Counts given [] s.ledger
     → Knows given [] s
 unfolding entries_of waiting_of
-knows-start given s setup logs rise few total items order empty retries jobs now dispatched last = record {
+knows-start given s setup logs rise few total items order empty retries jobs now dispatched last counts = record {
   setup = setup;
   logs = logs;
   legal = rw logs rise;
@@ -107,6 +102,7 @@ knows-start given s setup logs rise few total items order empty retries jobs now
   jobs = jobs [] refl;
   dispatched = dispatched;
   last = last;
+  ledger = counts;
 }
   where
     le-trans : (a b n : ℕ) → a ≤ b → b ≤ n → a ≤ n
@@ -137,65 +133,73 @@ pub legal-logs : (given : Given) (h : List Event) → IsLegal given h
 legal-logs given [] legal = legal
 legal-logs given (v ∷ h) legal = legal-logs given h legal.2
 
+rises-drop : (n least : ℕ) (rs : List Record) → rises_from least rs ≡ true
+    → rises_from least (drop n rs) ≡ true
+rises-drop zero least rs rise = rise
+rises-drop (suc n) least [] rise = refl
+rises-drop (suc n) least (r ∷ rs) rise =
+    let above = leb-true least r.offset (and-left _ _ rise) in
+    let rest = and-right (nat_lt r.offset (2 ^ 63 - 1)) _ (and-right (nat_le least r.offset) _ rise) in
+    rises-lower least (suc r.offset) (drop n rs) (omega (arith, above)) (rises-drop n (suc r.offset) rs rest)
+
+-- the records that were not polled rise
+unpolled-rises : (given : Given) (h : List Event) (p : ℕ) → IsLegal given h
+    → rises_from 0 (unpolled_records given h p) ≡ true
+unfolding unpolled_records
+unpolled-rises given h p legal = rises-drop (polled_count h p) 0 (records_from_begin given h p)
+    (rises-filter (λ (r : Record). nat_le (begin_of h p) r.offset) 0 (records_of given p)
+    (log-rises given.logs p (legal-logs given h legal)))
+
 -- those up to the high, or all where nothing presses
-pollable-upto : (given : Given) (h : List Event) (p next : ℕ) → IsLegal given h
-    → is_held h p ≡ true → unpolled_records given h p ≡ not_below next (records_of given p)
+pollable-upto : (given : Given) (h : List Event) (p : ℕ) → IsLegal given h → is_held h p ≡ true
     → upto (unwrap_or (if is_blocked given h p then high_of given h p else None) (2 ^ 64 - 1))
-    (not_below next (records_of given p)) ≡ pollable_records given h p
+    (unpolled_records given h p) ≡ pollable_records given h p
 unfolding pollable_records
-pollable-upto given h p next legal held left = elim (cases_Bool (is_blocked given h p)) [
+pollable-upto given h p legal held = elim (cases_Bool (is_blocked given h p)) [
   | inl pressed ↦ let high = blocked_has_high given h p legal held pressed in
-      rw (pressed, left, high.1) refl
-  | inr free ↦ rw (free, left) (all-upto 0 (2 ^ 64 - 1) (not_below next (records_of given p))
-      (rises-filter (λ (r : Record). nat_le next r.offset) 0 (records_of given p) (log-rises given.logs p (legal-logs given h legal)))
-      (omega arith) ∙ sym (filter-all (not_below next (records_of given p))))
+      rw (pressed, high.1) refl
+  | inr free ↦ rw free (all-upto 0 (2 ^ 64 - 1) (unpolled_records given h p)
+      (unpolled-rises given h p legal)
+      (omega arith) ∙ sym (filter-all (unpolled_records given h p)))
 ]
   where
     filter-all : (rs : List Record) → filter (λ r. true) rs ≡ rs
     filter-all [] = refl
     filter-all (r ∷ rs) = ap (λ (l : List Record). r ∷ l) (filter-all rs)
 
--- nothing was read of a log that is not there
-pub read-none : (o : Option (List Record)) (f : List Record → List Record) → option_map f o ≡ None
-    → is_some o ≡ true → ⊥
-read-none None f is some = cc
-read-none (Some log) f is some = cc
+-- the records that a poll takes of those that are left of the log are the next ones
+pub next-taken : (given : Given) (h : List Event) (p max last : ℕ) (left : List Record)
+    → IsLegal given h → is_held h p ≡ true → unpolled_records given h p ≡ left
+    → last ≡ unwrap_or (if is_blocked given h p then high_of given h p else None) (2 ^ 64 - 1)
+    → first_upto max last left ≡ next_records given h p max
+next-taken given h p max last left legal held is was =
+    ap (first_upto max last) (sym is)
+    ∙ ap (take max) (upto-while 0 last (unpolled_records given h p) (unpolled-rises given h p legal)
+    ∙ ap (λ (n : ℕ). upto n (unpolled_records given h p)) was
+    ∙ pollable-upto given h p legal held)
 
--- the records that were taken are the next ones
-pub plain-next : (given : Given) (h : List Event) (p next max : ℕ) (upto_last : ℕ)
-    (records : List RecordRef) (rs : List Record) → IsLegal given h
-    → is_held h p ≡ true → unpolled_records given h p ≡ not_below next (records_of given p)
-    → upto_last ≡ unwrap_or (if is_blocked given h p then high_of given h p else None) (2 ^ 64 - 1)
-    → option_map (λ log. upto upto_last (not_below next log)) (log_at given.logs p) ≡ Some rs
-    → map plain records ≡ take max rs
-    → map plain records ≡ next_records given h p max
-plain-next given h p next max upto_last records rs legal held left last was is =
-    is ∙ ap (λ (xs : List Record). take max xs)
-    (read-of (log_at given.logs p) (λ log. upto upto_last (not_below next log)) rs was
-    ∙ ap (λ (n : ℕ). upto n (not_below next (records_of given p))) last
-    ∙ pollable-upto given h p next legal held left)
+-- they are at most so many, and the first of those that are left
+take-few : (n : ℕ) (rs : List Record) → length (take n rs) ≤ n
+take-few zero rs = omega arith
+take-few (suc n) [] = omega arith
+take-few (suc n) (r ∷ rs) = omega (arith, take-few n rs)
 
--- at most so many
-pub plain-few : (max : ℕ) (records : List RecordRef) (rs : List Record)
-    → map plain records ≡ take max rs → length records ≤ max
-plain-few max records rs is =
-    omega (arith, length-map {B = Record} records plain, ap length is, take-few max rs)
+pub first-few : (max last : ℕ) (rs : List Record) → length (first_upto max last rs) ≤ max
+first-few max last rs = take-few max (take_while (λ (r : Record). nat_le r.offset last) rs)
+
+pub first-front : (max last : ℕ) (rs : List Record)
+    → first_upto max last rs ≡ take (length (first_upto max last rs)) rs
+first-front zero last rs = refl
+first-front (suc max) last [] = refl
+first-front (suc max) last (r ∷ rs) = rw (take_while-cons (λ (q : Record). nat_le q.offset last) r rs)
+    (by_test (nat_le r.offset last) (first-front max last rs))
   where
-    take-few : (n : ℕ) (rs : List Record) → length (take n rs) ≤ n
-    take-few zero rs = omega arith
-    take-few (suc n) [] = omega arith
-    take-few (suc n) (r ∷ rs) = omega (arith, take-few n rs)
-
--- the last of rising offsets is at most 2^63 - 2
-pub rises-last : (n o : ℕ) (os : List ℕ) → RisesFrom n os → slice_get os (length os - 1) ≡ Some o
-    → o < 2 ^ 63 - 1
-rises-last n o [] rises is = cc
-rises-last n o (x ∷ []) rises is = let same : x ≡ o = cc in omega (arith, rises.1, same)
-rises-last n o (x ∷ y ∷ os) rises is =
-    let e : length (y ∷ os) - 1 ≡ length os = omega arith in
-    let f : length (x ∷ y ∷ os) - 1 ≡ suc (length os) = omega arith in
-    rises-last (x + 1) o (y ∷ os) rises.2 (ap (λ (i : ℕ). slice_get (y ∷ os) i) e
-    ∙ sym (ap (λ (i : ℕ). slice_get (x ∷ y ∷ os) i) f) ∙ is)
+    by_test : (t : Bool) → first_upto max last rs ≡ take (length (first_upto max last rs)) rs
+        → take (suc max) (cond t (r ∷ take_while (λ (q : Record). nat_le q.offset last) rs) [])
+        ≡ take (length (take (suc max)
+        (cond t (r ∷ take_while (λ (q : Record). nat_le q.offset last) rs) []))) (r ∷ rs)
+    by_test true more = ap (λ (l : List Record). r ∷ l) more
+    by_test false more = refl
 
 -- what holds of each item of a list
 pub In-All : {X : Type 0} (P : X → Type 0) (xs : List X) → ((x : X) → In x xs → P x)
@@ -204,26 +208,16 @@ In-All P [] each k d below = absurd (omega arith)
 In-All P (x ∷ xs) each zero d below = each x (inl refl)
 In-All P (x ∷ xs) each (suc k) d below = In-All P xs (λ y i. each y (inr i)) k d (omega (arith, below))
 
--- some of rising offsets rise
-pub rises-some : {X : Type 0} (at : X → ℕ) (f : X → Bool) (n : ℕ) (xs : List X)
-    → RisesFrom n (map at xs) → Rises (map at (filter f xs))
-rises-some at f n [] rises = tt
-rises-some {X = X} at f n (x ∷ xs) rises = elim (f x) as (λ b. Rises (map at (cond b (x ∷ filter f xs) (filter f xs)))) [
-  | true ↦ (above (at x + 1) xs rises.2 (omega arith), rises-some at f (at x + 1) xs rises.2)
-  | false ↦ rises-some at f (at x + 1) xs rises.2
-]
-  where
-    above : (m : ℕ) (ys : List X) → RisesFrom m (map at ys) → at x < m
-        → AllByRecursion (λ y. at x < y) (map at (filter f ys))
-    above m [] rises less = tt
-    above m (y ∷ ys) rises less = elim (f y) as (λ b. AllByRecursion (λ z. at x < z)
-        (map at (cond b (y ∷ filter f ys) (filter f ys)))) [
-          | true ↦ (omega (arith, less, rises.0), above (at y + 1) ys rises.2 (omega (arith, less, rises.0)))
-          | false ↦ above (at y + 1) ys rises.2 (omega (arith, less, rises.0))
-        ]
+-- what a poll takes are the first records that are left
+pub are-next : (max last : ℕ) (unpolled left taken : List Record) → unpolled ≡ left
+    → taken ≡ first_upto max last left → taken ≡ take (length taken) unpolled
+are-next max last unpolled left taken is was =
+    was ∙ first-front max last left
+    ∙ ap (λ (rs : List Record). take (length rs) left) (sym was)
+    ∙ ap (take (length taken)) (sym is)
 
--- what follows from three facts that hold where a call went through
-pub on_ok-of : {T F : Type 0} (r : Result T F) (A B C D : Type 0) → (A → B → C → D) → OnOk r A
-    → OnOk r B → OnOk r C → OnOk r D
-on_ok-of (Ok x) A B C D f a b c = f a b c
-on_ok-of (Err e) A B C D f a b c = tt
+-- what follows from four facts that hold where a call went through
+pub if_ok-of : {T F : Type 0} (r : Result T F) (A : T → Type 0) (B C D : Type 0) (G : T → Type 0)
+    → ((x : T) → A x → B → C → D → G x) → IfOk r A → OnOk r B → OnOk r C → OnOk r D → IfOk r G
+if_ok-of (Ok x) A B C D G f a b c d = f x a b c d
+if_ok-of (Err e) A B C D G f a b c d = tt

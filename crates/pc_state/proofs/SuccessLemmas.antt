@@ -20,6 +20,7 @@ use Rattle.pc_laws.proofs.Lists.{and-left, and-right, true-not-false}
 use Rattle.pc_partition.specs.Window.{StandsFor}
 use Rattle.pc_shards.specs.Entries.{Entry, of_part, without}
 use Rattle.pc_shards.specs.OpenEntries.{entry_of}
+use Rattle.pc_cursor.specs.declared.cursor.Cursor.{Cursor}
 use Rattle.pc_state.specs.declared.part.HeldPart.{HeldPart}
 use Rattle.pc_state.specs.declared.part.PartState.{PartState}
 use Rattle.pc_state.specs.declared.state.State.{State}
@@ -169,13 +170,13 @@ success-known : (given : Given) (h : List Event) (t p o : ℕ) (answer : List �
     → IsLegal given h → IsAtWork given h t p o → KnowsHeld given h p held
     → StandsFor next.window.window (begin_of h p) (polled_count h p)
     (with_complete o (marks_of given h p))
-    → next.next ≡ held.next → next.size ≡ held.size → KnowsHeld given (Success t answer ∷ h) p next
+    → next.rest ≡ held.rest → next.size ≡ held.size → KnowsHeld given (Success t answer ∷ h) p next
 unfolding unpolled_records
-success-known given h t p o answer held next legal work known stands same_next same_size = record {
+success-known given h t p o answer held next legal work known stands same_rest same_size = record {
   stands = subst (λ (ms : List Mark). StandsFor next.window.window (begin_of h p)
       (polled_count h p) ms)
       (sym (success-marks given h t p o answer legal work)) stands;
-  unpolled = rw same_next known.unpolled;
+  unpolled = known.unpolled ∙ ap (λ (c : Cursor). c.left) (sym same_rest);
   size = same_size ∙ known.size;
 }
 
@@ -199,14 +200,14 @@ pub knows-success : (given : Given) (h : List Event) (t p o : ℕ) (answer : Lis
     → part.epoch ≡ was.epoch → part.held ≡ Some next
     → ((begin n : ℕ) (marks : List Mark) → StandsFor held.window.window begin n marks
     → StandsFor next.window.window begin n (with_complete o marks))
-    → next.next ≡ held.next → next.size ≡ held.size
+    → next.rest ≡ held.rest → next.size ≡ held.size
     → ((is_some (open_job h t) ≡ true) → jobs_of (Success t answer ∷ h) ≡ jobs_of h
     → ((u : ℕ) → settles (Success t answer) u ≡ (t == u))
     → length (open_jobs (Success t answer ∷ h)) + 1 ≡ length (open_jobs h)
     → AreOpen (Success t answer ∷ h) new.jobs)
     → Counts given (Success t answer ∷ h) new.ledger → Knows given (Success t answer ∷ h) new
 knows-success given h t p o answer old new was part held next knows may work below completes was_is
-    was_held epoch part_held stands same_next same_size jobs counts = record {
+    was_held epoch part_held stands same_rest same_size jobs counts = record {
       setup = knows.setup ∙ sym completes.setup;
       logs = knows.logs ∙ sym completes.logs;
       legal = may.legal;
@@ -251,7 +252,7 @@ knows-success given h t p o answer old new was part held next knows may work bel
       held = ap is_some part_held ∙ sym work.held;
       knows = subst (λ (x : Option HeldPart). KnowsPart given k p x) (sym part_held)
           (success-known given h t p o answer held next knows.legal work known
-          (stands (begin_of h p) (polled_count h p) (marks_of given h p) known.stands) same_next
+          (stands (begin_of h p) (polled_count h p) (marks_of given h p) known.stands) same_rest
           same_size);
     }
 

@@ -17,7 +17,6 @@ use Rattle.pc_partition.specs.Window.{StandsFor}
 use Rattle.pc_retry.specs.declared.queue.Retry.{Retry}
 use Rattle.pc_shards.specs.Entries.{Entry, of_part}
 use Rattle.pc_shards.specs.OpenEntries.{open_entries}
-use Rattle.pc_cursor.specs.Cursor.{not_below}
 use Rattle.pc_state.specs.declared.part.HeldPart.{HeldPart}
 use Rattle.pc_state.specs.declared.part.PartState.{PartState}
 use Rattle.pc_state.specs.declared.state.State.{State}
@@ -47,11 +46,11 @@ entries_of given h p = if is_held h p
     then open_entries given h p (λ r. is_kept_back given h p r.offset) (λ r. failures_of h p r.offset)
     else []
 
--- what is kept of a held part: its completion state, from which offset on its records were not
--- polled, and the size of its last commit
+-- what is kept of a held part: its completion state, where its log is to be read on, which gives
+-- exactly its records that were not polled, and the size of its last commit
 pub record KnowsHeld (given : Given) (h : List Event) (p : ℕ) (held : HeldPart) : Type 0 where
   pub stands : StandsFor held.window.window (begin_of h p) (polled_count h p) (marks_of given h p)
-  pub unpolled : unpolled_records given h p ≡ not_below held.next (records_of given p)
+  pub unpolled : unpolled_records given h p ≡ held.rest.left
   pub size : held.size ≡ last_size h p
 
 abbrev pub KnowsPart : Given → List Event → ℕ → Option HeldPart → Type 0
@@ -120,7 +119,7 @@ pub record AreReleased (old new : List PartState) : Type 0 where
 
 -- a held part with another size of its last commit
 abbrev pub sized : ℕ → HeldPart → HeldPart
-sized size held = record { window = held.window; next = held.next; size = Some size }
+sized size held = record { window = held.window; rest = held.rest; size = Some size }
 
 -- a part with another size of its last commit, if it is held
 abbrev pub with_size : ℕ → PartState → PartState

@@ -50,7 +50,7 @@ impl<'a> State<'a> {
 }
 
 /// Each part's epoch is over, and none is held.
-fn release_all(parts: &mut [PartState])
+fn release_all(parts: &mut [PartState<'_>])
     requires { (p : ℕ) (d : PartState) → p < length parts.old
         → (slice_index_or parts.old p d).epoch < 4000001 }
     ensures { AreReleased parts.old parts.new }

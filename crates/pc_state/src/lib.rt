@@ -15,5 +15,6 @@ mod state;
 pub use jobs::{OpenJob, OpenJobs};
 pub use ledger::{Ledger, PartLedger};
 pub use part::{HeldPart, PartState};
+pub use polls::Taken;
 pub use retries::ready_after;
 pub use state::State;

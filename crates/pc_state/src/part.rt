@@ -3,28 +3,29 @@
 ghost use Rattle.std.specs.Prelude.{◌≡◌, ℕ, None, IfOk, length, replicate};
 ghost use Rattle.pc_state.specs.State.{with_size};
 
+use pc_cursor::Cursor;
 use pc_partition::PartitionState;
 use std::alloc::{AllocError, Global};
 
 /// A part's epoch, and what is known of it while it is held.
 #[derive(Debug, Drop)]
-pub struct PartState {
+pub struct PartState<'a> {
     pub epoch: u64,
-    pub held: Option<HeldPart>,
+    pub held: Option<HeldPart<'a>>,
 }
 
 /// What is known of a part that is held.
 #[derive(Debug, Drop)]
-pub struct HeldPart {
+pub struct HeldPart<'a> {
     /// Which known offsets are complete.
     pub window: PartitionState,
-    /// The offset from which on the records were not polled.
-    pub next: u64,
+    /// Where its log is to be read on: at the first record that was not polled.
+    pub rest: Cursor<'a>,
     /// The size of the last commit since the assignment.
     pub size: Option<u32>,
 }
 
-impl PartState {
+impl PartState<'_> {
     /// A commit of this size was made of the part, if it is held, or failed.
     pub(crate) fn note_size(&mut self, size: u32)
         ensures { self.new ≡ with_size size self.old }
@@ -36,7 +37,7 @@ impl PartState {
 }
 
 /// So many parts of which none was held.
-pub fn unheld(alloc: Global, count: u32) -> Result<Vec<PartState>, AllocError>
+pub fn unheld<'a>(alloc: Global, count: u32) -> Result<Vec<PartState<'a>>, AllocError>
     ensures count { IfOk result (λ parts. length parts.items ≡ count) }
     ensures each { IfOk result (λ parts. parts.items
         ≡ replicate count (record { epoch = 0; held = None })) }

@@ -1,6 +1,6 @@
 //! Which records of a part are next, and what a poll of them changes.
 
-ghost use Rattle.std.specs.Prelude.{◌≡◌, ◌≤◌, ◌<◌, ◌+◌, ◌^◌, ◌++◌, ℕ, List, [], ◌∷◌, Option, true, false, None, Some, IfOk, OnOk, OnErr, length, map, filter, take, if◌then◌else◌, option_map, slice_get, option_copied};
+ghost use Rattle.std.specs.Prelude.{◌≡◌, ◌≤◌, ◌<◌, ◌+◌, ◌-◌, ◌^◌, ◌++◌, ℕ, List, [], ◌∷◌, Option, true, false, None, Some, IfOk, IfSome, OnOk, OnErr, length, map, filter, take, if◌then◌else◌, option_map, slice_get, unwrap_or};
 ghost use Rattle.std.specs.List.{All};
 ghost use Rattle.std.specs.Option.{option_map_or};
 ghost use Rattle.pc_model.specs.declared.event.Event.{Event};
@@ -16,8 +16,7 @@ ghost use Rattle.pc_model.specs.Marks.{Mark};
 ghost use Rattle.pc_partition.specs.Window.{AreNext, RisesFrom, StandsFor, open_polled};
 ghost use Rattle.pc_batch.specs.Record.{plain};
 ghost use Rattle.pc_shards.specs.Entries.{ChangesNothing, ChangesOnly, of_part};
-ghost use Rattle.pc_shards.specs.Rising.{Rises};
-ghost use Rattle.pc_state.specs.Polls.{AreNextRecords, IsPolled, IsSameHeld, is_open_in, new_entries};
+ghost use Rattle.pc_state.specs.Polls.{AreNextRecords, AreTaken, IsPolled, IsSameHeld, is_open_in, new_entries};
 ghost use Rattle.pc_state.specs.State.{Knows, MayCome};
 
 use crate::part::HeldPart;
@@ -31,7 +30,16 @@ use pc_partition::PartitionState;
 use pc_shards::Shards;
 use std::alloc::{AllocError, Global};
 
-impl HeldPart {
+/// What a poll took.
+#[derive(Clone, Copy, Debug, PartialEq, Eq)]
+pub struct Taken {
+    /// How many records.
+    pub count: u32,
+    /// The offset of the last of them, or 0 where there is none.
+    pub last: u64,
+}
+
+impl HeldPart<'_> {
     /// Whether the last commit since the assignment takes more than its share of the limit.
     pub fn is_blocked(&self, setup: &Setup) -> bool
         ensures { result ≡ option_map_or (λ size.
@@ -52,7 +60,7 @@ impl<'a> State<'a> {
             → result ≡ option_map (λ r. r.offset) (slice_get (unpolled_records given h part) 0) }
     {
         let held = self.held(part)?;
-        let record = self.logs.poll(part, held.next, 1)?.next()?;
+        let record = held.rest.again().next()?;
         Some(record.offset)
     }
 
@@ -70,52 +78,60 @@ impl<'a> State<'a> {
         }
     }
 
-    /// The next records of a held part, at most so many, under pressure none above its greatest
-    /// complete offset. The only error is want of memory.
-    pub fn next_records(
-        &self,
-        alloc: Global,
-        part: u32,
-        max: u32,
-    ) -> Result<Vec<RecordRef<'a>>, AllocError>
-        ensures next { IfOk result (λ records. (given : Given) (h : List Event)
-            → Knows given h self.now → is_held h part ≡ true
-            → map plain records.items ≡ next_records given h part max) }
-        ensures few { IfOk result (λ records. length records.items ≤ max) }
-    {
-        let Some(held) = self.held(part) else {
-            return Ok(Vec::new(alloc));
-        };
-        let upto = self.pressing(part).unwrap_or(u64::MAX);
-        match self.logs.known_upto(part, held.next, upto) {
-            Some(next) => first_of(alloc, next, max),
-            None => Ok(Vec::new(alloc)),
-        }
-    }
-
-    /// Polls these records of a held part, which are its next ones. The only error is want of
-    /// memory, after which the state is as before.
-    pub fn poll(
-        &mut self,
-        alloc: Global,
-        part: u32,
-        records: &[RecordRef<'a>],
-    ) -> Result<(), AllocError>
-        requires next { (given : Given) × (h : List Event) × Knows given h self.old
-            × (is_held h part ≡ true) × AreNextRecords given h part records.now }
-        requires few { length records.now ≤ MAX_RECORDS }
-        ensures polled { OnOk result ((given : Given) (h : List Event) (last : ℕ)
+    /// Polls the next records of a held part, at most `max`, under pressure none above its greatest
+    /// complete offset. The only error is want of memory, after which the state is as before.
+    pub fn poll(&mut self, alloc: Global, part: u32, max: u32) -> Result<Taken, AllocError>
+        requires held { (given : Given) × (h : List Event) × Knows given h self.old
+            × (is_held h part ≡ true) }
+        requires few { max ≤ MAX_RECORDS }
+        ensures taken { IfOk result (λ taken. (given : Given) (h : List Event)
             → Knows given h self.old → is_held h part ≡ true
-            → AreNextRecords given h part records.now
-            → MayCome given (Poll part (length records.now) last) h
-            → Knows given (Poll part (length records.now) last ∷ h) self.new) }
+            → AreTaken (next_records given h part max) taken) }
+        ensures polled { IfOk result (λ taken. (given : Given) (h : List Event)
+            → Knows given h self.old → is_held h part ≡ true
+            → MayCome given (Poll part taken.count taken.last) h
+            → Knows given (Poll part taken.count taken.last ∷ h) self.new) }
         ensures stays { OnErr result ((given : Given) (h : List Event) → Knows given h self.old
             → Knows given h self.new) }
     {
+        let Some(next) = self.next_records(part, max) else {
+            unreachable!();
+        };
+        let most = self.most(part, max);
+        self.shards.reserve(part, most)?;
         let Some(held) = &mut self.parts[part as usize].held else {
             unreachable!();
         };
-        poll_held(alloc, held, &mut self.shards, part, records)
+        poll_held(alloc, held, &mut self.shards, part, next)
+    }
+
+    /// The next records of a held part, at most `max`, under pressure none above its greatest
+    /// complete offset.
+    fn next_records(&self, part: u32, max: u32) -> Option<Polled<'a>>
+        ensures next { IfSome result (λ next. (given : Given) (h : List Event)
+            → Knows given h self.now → is_held h part ≡ true
+            → next.left ≡ next_records given h part max) }
+        ensures are { IfSome result (λ next. (given : Given) (h : List Event)
+            → Knows given h self.now → is_held h part ≡ true
+            → AreNextRecords given h part next.left) }
+        ensures log { IfSome result (λ next. (given : Given) (h : List Event)
+            → Knows given h self.now → is_held h part ≡ true
+            → next.log ≡ unpolled_records given h part) }
+        ensures few { IfSome result (λ next. length next.left ≤ max) }
+        ensures free { result ≡ None → (given : Given) (h : List Event) → Knows given h self.now
+            → is_held h part ≡ false }
+    {
+        let upto = self.pressing(part).unwrap_or(u64::MAX);
+        let held = self.held(part)?;
+        Some(Polled::new(held.rest.again(), max, upto))
+    }
+
+    /// How many records a poll can take at most: no more than the log has.
+    fn most(&self, part: u32, max: u32) -> u32 {
+        match self.logs.log(part) {
+            Some(log) => log.records().min(u64::from(max)) as u32,
+            None => 0,
+        }
     }
 }
 
@@ -123,93 +139,96 @@ impl<'a> State<'a> {
 /// window. The only error is want of memory, after which the same is known and added as before.
 fn poll_held<'a>(
     alloc: Global,
-    held: &mut HeldPart,
+    held: &mut HeldPart<'a>,
     shards: &mut Shards<'a>,
     part: u32,
-    records: &[RecordRef<'a>],
-) -> Result<(), AllocError>
-    requires rises { RisesFrom held.old.window.window.polled_to (map (λ r. r.offset) records.now) }
+    next: Polled<'a>,
+) -> Result<Taken, AllocError>
+    requires log { next.log ≡ held.old.rest.left }
+    requires rises { RisesFrom held.old.window.window.polled_to (map (λ r. r.offset) next.left) }
     requires next { (begin n : ℕ) × (marks : List Mark)
         × StandsFor held.old.window.window begin n marks
-        × AreNext n marks (map (λ r. r.offset) records.now) }
-    requires few { open_polled held.old.window.window + length records.now < 2 ^ 32 }
-    requires above { All (λ r. All (λ e. e.record.offset < r.offset) (of_part shards.old part)) records.now }
-    ensures held { OnOk result (IsPolled (map (λ r. r.offset) records.now) held.old held.new) }
+        × AreNext n marks (map (λ r. r.offset) next.left) }
+    requires few { open_polled held.old.window.window + length next.left < 2 ^ 32 }
+    requires above { All (λ r. All (λ e. e.record.offset < r.offset) (of_part shards.old part)) next.left }
+    ensures taken { IfOk result (λ taken. AreTaken next.entry.left taken) }
+    ensures held { OnOk result (IsPolled (map (λ r. r.offset) next.entry.left) held.old held.new) }
     ensures added { OnOk result (of_part shards.new part ≡ of_part shards.old part
-        ++ new_entries (filter (λ r. is_open_in held.old.window.window r.offset) records.now)) }
+        ++ new_entries (filter (λ r. is_open_in held.old.window.window r.offset) next.entry.left)) }
     ensures others { OnOk result (ChangesOnly part shards.old shards.new) }
     ensures same { OnErr result (IsSameHeld held.old held.new) }
     ensures nothing { OnErr result (ChangesNothing shards.old shards.new) }
 {
-    let offsets = offsets_of(alloc, records)?;
-    let opened = open_records(alloc, &held.window, records)?;
-    held.window.reserve(records.len() as u32)?;
-    add_all(shards, part, &opened)?;
-    if held.window.polled(&offsets).is_err() {
-        unreachable!();
+    let count = shards.count(part);
+    match take_in(alloc, held, shards, part, next) {
+        Ok(taken) => Ok(taken),
+        Err(error) => {
+            shards.truncate(part, count);
+            Err(error)
+        }
     }
-    if let Some(last) = offsets.last() {
-        held.next = *last + 1;
-    }
-    Ok(())
 }
 
-/// Adds records that were polled and are incomplete, in this order and above all of their part that
-/// are there: all of them, or none where memory runs out.
-fn add_all<'a>(
+/// As `poll_held`, but where memory runs out some of the records were added to the shards.
+fn take_in<'a>(
+    alloc: Global,
+    held: &mut HeldPart<'a>,
     shards: &mut Shards<'a>,
     part: u32,
-    records: &[RecordRef<'a>],
+    next: Polled<'a>,
+) -> Result<Taken, AllocError>
+    requires log { next.log ≡ held.old.rest.left }
+    requires rises { RisesFrom held.old.window.window.polled_to (map (λ r. r.offset) next.left) }
+    requires next { (begin n : ℕ) × (marks : List Mark)
+        × StandsFor held.old.window.window begin n marks
+        × AreNext n marks (map (λ r. r.offset) next.left) }
+    requires few { open_polled held.old.window.window + length next.left < 2 ^ 32 }
+    requires above { All (λ r. All (λ e. e.record.offset < r.offset) (of_part shards.old part)) next.left }
+    ensures taken { IfOk result (λ taken. AreTaken next.entry.left taken) }
+    ensures held { OnOk result (IsPolled (map (λ r. r.offset) next.entry.left) held.old held.new) }
+    ensures added { OnOk result (of_part shards.new part ≡ of_part shards.old part
+        ++ new_entries (filter (λ r. is_open_in held.old.window.window r.offset) next.entry.left)) }
+    ensures others { ChangesOnly part shards.old shards.new }
+    ensures same { OnErr result (IsSameHeld held.old held.new) }
+    ensures front { take (length (of_part shards.old part)) (of_part shards.new part)
+        ≡ of_part shards.old part }
+{
+    let mut left = next;
+    let mut offsets = Vec::new(alloc);
+    'records: while let Some(record) = left.next() {
+        add_open(shards, &held.window, part, record)?;
+        offsets.push(record.offset)?;
+    }
+    held.window.polled(&offsets)?;
+    held.rest = left.rest();
+    Ok(Taken {
+        count: offsets.len() as u32,
+        last: last_of(&offsets),
+    })
+}
+
+/// Adds a record that is incomplete or new, and no other.
+fn add_open<'a>(
+    shards: &mut Shards<'a>,
+    window: &PartitionState,
+    part: u32,
+    record: RecordRef<'a>,
 ) -> Result<(), AllocError>
-    requires rises { Rises (map (λ r. r.offset) records.now) }
-    requires above { All (λ r. All (λ e. e.record.offset < r.offset) (of_part shards.old part)) records.now }
-    ensures added { OnOk result
-        (of_part shards.new part ≡ of_part shards.old part ++ new_entries records.now) }
+    requires { All (λ e. e.record.offset < record.offset) (of_part shards.old part) }
+    ensures added { OnOk result (of_part shards.new part ≡ of_part shards.old part ++ new_entries
+        (filter (λ r. is_open_in window.now.window r.offset) (plain record.entry ∷ []))) }
     ensures others { OnOk result (ChangesOnly part shards.old shards.new) }
     ensures stays { OnErr result (ChangesNothing shards.old shards.new) }
 {
-    let count = shards.count(part);
-    for record in records {
-        if let Err(error) = shards.add_record(part, *record) {
-            shards.truncate(part, count);
-            return Err(error);
-        }
+    if window.is_open(record.offset) {
+        return shards.add_record(part, record);
     }
     Ok(())
 }
 
-/// The first of some records, at most so many.
-fn first_of<'a>(alloc: Global, next: Polled<'a>, max: u32) -> Result<Vec<RecordRef<'a>>, AllocError>
-    ensures { IfOk result (λ records. map plain records.items ≡ take max next.entry) }
+/// The last offset, or 0 where there is none.
+fn last_of(offsets: &[u64]) -> u64
+    ensures { result ≡ unwrap_or (slice_get offsets.now (length offsets.now - 1)) 0 }
 {
-    let mut records = Vec::new(alloc);
-    for record in next.take(max as usize) {
-        records.push(record)?;
-    }
-    Ok(records)
-}
-
-/// The offsets of the records.
-fn offsets_of(alloc: Global, records: &[RecordRef<'_>]) -> Result<Vec<u64>, AllocError>
-    ensures { IfOk result (λ offsets. offsets.items ≡ map (λ r. r.offset) records.now) }
-{
-    records.iter().map(|record| record.offset).collect(alloc)
-}
-
-/// Those of the records that are incomplete or new.
-fn open_records<'a>(
-    alloc: Global,
-    window: &PartitionState,
-    records: &[RecordRef<'a>],
-) -> Result<Vec<RecordRef<'a>>, AllocError>
-    ensures { IfOk result (λ kept. kept.items
-        ≡ filter (λ r. is_open_in window.now.window r.offset) records.now) }
-{
-    let mut kept = Vec::new(alloc);
-    for record in records {
-        if window.is_open(record.offset) {
-            kept.push(*record)?;
-        }
-    }
-    Ok(kept)
+    offsets.last().copied().unwrap_or(0)
 }

@@ -28,7 +28,7 @@ use std::alloc::{AllocError, Global};
 pub struct State<'a> {
     pub setup: &'a Setup,
     pub logs: &'a BrokerLogs<'a>,
-    pub parts: Vec<PartState>,
+    pub parts: Vec<PartState<'a>>,
     pub shards: Shards<'a>,
     /// The records that failed and wait for their time. There is a place for each job that is out.
     pub retries: RetryQueue,
@@ -79,7 +79,7 @@ impl<'a> State<'a> {
     }
 
     /// What is kept of a part that has a log.
-    pub fn part(&self, part: u32) -> Option<&PartState>
+    pub fn part(&self, part: u32) -> Option<&PartState<'a>>
         ensures knows { IfSome result (λ state. (given : Given) (h : List Event)
             → Knows given h self.now
             → has_log given part ≡ true × PartKeeps given h part state.now) }
@@ -91,7 +91,7 @@ impl<'a> State<'a> {
     }
 
     /// What is known of a part that is held.
-    pub fn held(&self, part: u32) -> Option<&HeldPart>
+    pub fn held(&self, part: u32) -> Option<&HeldPart<'a>>
         ensures knows { IfSome result (λ held. (given : Given) (h : List Event)
             → Knows given h self.now
             → (is_held h part ≡ true) × KnowsHeld given h part held.now) }
@@ -125,12 +125,15 @@ impl<'a> State<'a> {
             → MayCome given (Assign part (epoch_of h part + 1) position stored.map) h
             → Knows given (Assign part (epoch_of h part + 1) position stored.map ∷ h) self.new }
     {
+        let Some(rest) = self.logs.cursor(part, position) else {
+            unreachable!();
+        };
         self.ledger.assign(part, position);
         let state = &mut self.parts[part as usize];
         state.epoch += 1;
         state.held = Some(HeldPart {
             window,
-            next: position,
+            rest,
             size: None,
         });
         state.epoch

@@ -23,10 +23,10 @@ pub trait Task {
     ghost use Rattle.pc_task.specs.Jobs.{due_outcome, plain_job};
 
     /// The outcome of an attempt, counted from 1, at a record of a part.
-    ghost outcome : { Self → Rules → ℕ → Record → ℕ → Outcome };
+    ghost outcome: { Self → Rules → ℕ → Record → ℕ → Outcome };
 
     /// Whether two functions count as the same.
-    ghost same : { Self → Self → Bool };
+    ghost same: { Self → Self → Bool };
 
     /// Runs the function on the job's record. The only error is want of memory.
     fn call(&self, alloc: Global, job: &Job<'_, Self>) -> Result<Outcome, AllocError>

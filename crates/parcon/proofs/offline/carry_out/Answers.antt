@@ -4,11 +4,11 @@ use Rattle.std.specs.List.{All}
 use Rattle.pc_model.specs.declared.outcome.Start.{Start}
 use Rattle.pc_offset_client.specs.Client.{kept_for}
 use Rattle.pc_engine.specs.Engine.{given_by}
-use Rattle.parcon.specs.declared.status.Status.{Status}
-use Rattle.parcon.specs.declared.status.Status.TheVariants.{NoMemory}
-use Rattle.parcon.specs.Ending.{fault_line}
+use Rattle.pc_inputs.specs.declared.status.Status.{Status}
+use Rattle.pc_inputs.specs.declared.status.Status.TheVariants.{NoMemory}
+use Rattle.pc_inputs.specs.Status.{fault_line}
 use Rattle.parcon.specs.Written.{IsWritten}
-use Rattle.parcon.specs.Play.{moment}
+use Rattle.pc_play.specs.Play.{moment}
 use Rattle.parcon.specs.Promise.{Plays}
 use Rattle.parcon.specs.Starts.{IsSendable, Sends, Sent}
 use Rattle.parcon.proofs.StartLemmas.{starts-sendable}

@@ -1,9 +1,9 @@
 -- The files were read, or not.
 use Rattle.std.proofs.Common.{ap, map}
 use Rattle.std.specs.Prelude.{string_bytes}
-use Rattle.parcon.specs.Play.{moment}
-use Rattle.parcon.specs.Reading.{texts_of}
-use Rattle.parcon.proofs.ReadingLemmas.{was-read}
+use Rattle.pc_play.specs.Play.{moment}
+use Rattle.pc_inputs.specs.Reading.{texts_of}
+use Rattle.pc_inputs.proofs.ReadingLemmas.{was-read}
 use Rattle.parcon.proofs.PromiseLemmas.{call-played, call-unplayed}
 use Rattle.parcon.proofs.offline.offline.Goals as goal
 

@@ -1,10 +1,10 @@
 -- The plan is carried out, or there is none.
 use Rattle.std.proofs.Common.{◌≡◌, true, Ok, ap, map, subst, sym}
-use Rattle.parcon.specs.Play.{moment}
-use Rattle.parcon.specs.Reading.{text_of, texts_of}
-use Rattle.parcon.specs.Plan.{all_rise, logs_of, plan_behind, planned}
-use Rattle.parcon.proofs.ReadingLemmas.{was-read}
-use Rattle.parcon.proofs.PlanLemmas.{texts-rise}
+use Rattle.pc_play.specs.Play.{moment}
+use Rattle.pc_inputs.specs.Reading.{text_of, texts_of}
+use Rattle.pc_inputs.specs.Plan.{all_rise, logs_of, plan_behind, planned}
+use Rattle.pc_inputs.proofs.ReadingLemmas.{was-read}
+use Rattle.pc_inputs.proofs.PlanLemmas.{texts-rise}
 use Rattle.parcon.proofs.PromiseLemmas.{carried-along, carried-none, status-of}
 use Rattle.parcon.proofs.offline.play_texts.Goals as goal
 

@@ -2,7 +2,7 @@
 use Rattle.std.proofs.Common.{◌≡◌, List, ℕ, [], sym, subst}
 use Rattle.std.specs.List.{flat_map}
 use Rattle.pc_print.specs.Line.{line_of}
-use Rattle.parcon.specs.Ending.{remark_line}
+use Rattle.parcon.specs.Remark.{remark_line}
 use Rattle.parcon.specs.Written.{HasFront, IsOnItsWay, with_bytes}
 use Rattle.parcon.proofs.WrittenLemmas.{way-begin, front-longer, text_with-lines}
 use Rattle.parcon.proofs.output.put_play.Goals as goal

@@ -1,7 +1,7 @@
 -- One line more is on its way, or the front of all lines stands in the sink.
 use Rattle.std.proofs.Common.{◌+◌, ◌∙◌, ◌++◌, refl, subst, take}
 use Rattle.std.specs.List.{flat_map}
-use Rattle.parcon.specs.Ending.{remark_line}
+use Rattle.parcon.specs.Remark.{remark_line}
 use Rattle.parcon.specs.Written.{HasFront, IsOnItsWay}
 use Rattle.parcon.proofs.WrittenLemmas.{way-put, front-of-way, front-of-all, lines-more, on_err}
 use Rattle.parcon.proofs.output.put_remarks.Goals as goal

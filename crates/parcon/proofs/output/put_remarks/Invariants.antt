@@ -1,7 +1,7 @@
 -- The lines so far are on their way.
 use Rattle.std.proofs.Common.{◌≡◌, ◌++◌, List, ℕ, Option, take}
 use Rattle.std.specs.List.{flat_map}
-use Rattle.parcon.specs.Ending.{remark_line}
+use Rattle.parcon.specs.Remark.{remark_line}
 use Rattle.parcon.specs.Written.{IsOnItsWay}
 use Rattle.parcon.proofs.output.put_remarks.Given as goal
 

@@ -3,8 +3,8 @@ use Rattle.std.proofs.Common.{Ok, [], List, ap, sym, subst}
 use Rattle.pc_script.specs.declared.play.PlayLine.{PlayLine}
 use Rattle.pc_offset_client.specs.Client.{kept_for}
 use Rattle.pc_engine.specs.Engine.{given_by}
-use Rattle.parcon.specs.Play.{IsPlayed, moment}
-use Rattle.parcon.specs.Promise.{IsKept}
+use Rattle.pc_play.specs.Play.{IsPlayed, moment}
+use Rattle.pc_play.specs.Kept.{IsKept}
 use Rattle.parcon.proofs.PromiseLemmas.{ends-played, plays-kept}
 use Rattle.parcon.proofs.play_setup.play_setup.Goals as goal
 

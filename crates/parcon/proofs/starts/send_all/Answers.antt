@@ -3,7 +3,7 @@ use Rattle.std.proofs.Common.{◌≡◌, ◌⊎◌, ◌∙◌, Bool, Err, Ok, ap
 use Rattle.std.proofs.lemmas.Result.{err_from_is_err_and}
 use Rattle.pc_offset_client.specs.declared.fault.ClientFault.{ClientFault}
 use Rattle.pc_offset_client.specs.declared.fault.ClientFault.TheVariants.{NoMemory as Forgot}
-use Rattle.parcon.specs.Play.{IsAborted, moment}
+use Rattle.pc_play.specs.Play.{IsAborted, moment}
 use Rattle.parcon.specs.Starts.{Sends, SendsStart, Sent}
 use Rattle.parcon.proofs.StartLemmas.{sends-next, sends-stopped}
 use Rattle.parcon.proofs.starts.send_all.Goals as goal

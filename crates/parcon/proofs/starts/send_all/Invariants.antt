@@ -1,6 +1,6 @@
 -- The starts so far were stored.
 use Rattle.std.proofs.Common.{◌≡◌, Ok, take}
-use Rattle.parcon.specs.Play.{moment}
+use Rattle.pc_play.specs.Play.{moment}
 use Rattle.parcon.specs.Starts.{SendsStarts}
 use Rattle.parcon.proofs.starts.send_all.Given as goal
 

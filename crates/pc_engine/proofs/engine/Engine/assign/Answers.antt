@@ -94,26 +94,26 @@ returns-clause-asks g c =
     (g.L.Link.is_told c.self.inside.client.link) (g.T.Task.outcome c.self.inside.task.now) (kept_for (g.L.Link.store c.self.inside.client.link)))
     c.self.inside.journal.events c.args.part ≡ None = rw (← c.self.view_is) at none in record {
       given = assigned-given c.self.inside.state c.self.inside.journal.events
-    (g.L.Link.is_told c.self.inside.client.link) (g.T.Task.outcome c.self.inside.task.now) (kept_for (g.L.Link.store c.self.inside.client.link))
-    c.self.inside.journal.room c.self.invariant c.args.part inner c.in_ok-stored.stored
-    (kept_for (g.L.Link.store c.fetch.new.self.link))
-    (λ is. (c.in_ok-stored.ensures.gives is).1)
-    (λ is q. ap (λ (b : Broker). kept_for b q) (c.in_ok-stored.ensures.keeps is))
-    c.assign-epoch.new.self
-    (c.assign-epoch.ensures.knows (given_to c.self.inside.state c.self.inside.journal.events
-    (g.L.Link.is_told c.self.inside.client.link) (g.T.Task.outcome c.self.inside.task.now) (kept_for (g.L.Link.store c.self.inside.client.link)))
-    c.self.inside.journal.events c.in_ok-stored.stored c.self.invariant.knows refl
-    c.in_ok-window.ensures.state)
-    (g.L.Link.is_told c.fetch.new.self.link) c.in_ok-stored.ensures.told c.assign-epoch.result
-    (c.assign-epoch.ensures.epoch (given_to c.self.inside.state c.self.inside.journal.events
-    (g.L.Link.is_told c.self.inside.client.link) (g.T.Task.outcome c.self.inside.task.now) (kept_for (g.L.Link.store c.self.inside.client.link)))
-    c.self.inside.journal.events c.self.invariant.knows (may_assign (given_to c.self.inside.state c.self.inside.journal.events
-    (g.L.Link.is_told c.self.inside.client.link) (g.T.Task.outcome c.self.inside.task.now) (kept_for (g.L.Link.store c.self.inside.client.link)))
-    c.self.inside.journal.events c.args.part inner).known)
-    c.reserve.new.self.events c.push.new.self.events c.reserve.new.self.room c.push.new.self.room
-    c.outstanding.result c.in_ok-reserve.ensures.events c.push.ensures.events
-    (c.outstanding.ensures _ _ c.self.invariant.knows) c.in_ok-reserve.ensures.room c.push.ensures.room
-    ∙ ap (λ v. given_of g.T.Task.outcome v) c.self.view_is;
+          (g.L.Link.is_told c.self.inside.client.link) (g.T.Task.outcome c.self.inside.task.now) (kept_for (g.L.Link.store c.self.inside.client.link))
+          c.self.inside.journal.room c.self.invariant c.args.part inner c.in_ok-stored.stored
+          (kept_for (g.L.Link.store c.fetch.new.self.link))
+          (λ is. (c.in_ok-stored.ensures.gives is).1)
+          (λ is q. ap (λ (b : Broker). kept_for b q) (c.in_ok-stored.ensures.keeps is))
+          c.assign-epoch.new.self
+          (c.assign-epoch.ensures.knows (given_to c.self.inside.state c.self.inside.journal.events
+          (g.L.Link.is_told c.self.inside.client.link) (g.T.Task.outcome c.self.inside.task.now) (kept_for (g.L.Link.store c.self.inside.client.link)))
+          c.self.inside.journal.events c.in_ok-stored.stored c.self.invariant.knows refl
+          c.in_ok-window.ensures.state)
+          (g.L.Link.is_told c.fetch.new.self.link) c.in_ok-stored.ensures.told c.assign-epoch.result
+          (c.assign-epoch.ensures.epoch (given_to c.self.inside.state c.self.inside.journal.events
+          (g.L.Link.is_told c.self.inside.client.link) (g.T.Task.outcome c.self.inside.task.now) (kept_for (g.L.Link.store c.self.inside.client.link)))
+          c.self.inside.journal.events c.self.invariant.knows (may_assign (given_to c.self.inside.state c.self.inside.journal.events
+          (g.L.Link.is_told c.self.inside.client.link) (g.T.Task.outcome c.self.inside.task.now) (kept_for (g.L.Link.store c.self.inside.client.link)))
+          c.self.inside.journal.events c.args.part inner).known)
+          c.reserve.new.self.events c.push.new.self.events c.reserve.new.self.room c.push.new.self.room
+          c.outstanding.result c.in_ok-reserve.ensures.events c.push.ensures.events
+          (c.outstanding.ensures _ _ c.self.invariant.knows) c.in_ok-reserve.ensures.room c.push.ensures.room
+          ∙ ap (λ v. given_of g.T.Task.outcome v) c.self.view_is;
       task = ap (λ v. v.task) c.self.view_is;
       told = c.in_ok-stored.ensures.told
           ∙ ap (λ v. g.L.Link.is_told v.link) c.self.view_is;

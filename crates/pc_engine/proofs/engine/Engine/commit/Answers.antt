@@ -1,9 +1,12 @@
 -- Where nothing refuses the commit and there is a place for its event, it is stored.
-use Rattle.std.proofs.Common.{◌∙◌, ap, refl, Err}
+use Rattle.std.proofs.Common.{◌∙◌, ap, refl, subst, Err}
+use Rattle.pc_offset_client.specs.Client.{kept_for}
 use Rattle.std.proofs.lemmas.Result.{err_from_is_err_and}
 use Rattle.pc_engine.specs.Engine.{given_of}
 use Rattle.pc_engine.specs.declared.fault.EngineFault.{EngineFault}
 use Rattle.pc_engine.proofs.EngineLemmas.{commit-refused, commit-unmade}
+use Rattle.pc_engine.proofs.EngineRevoke.{Stores}
+use Rattle.pc_engine.proofs.EngineStep.{given_to}
 use Rattle.pc_engine.proofs.engine.Engine.commit.Goals as goal
 
 pub returns-in_err-may_commit-clause-effect : goal.returns-in_err-may_commit-clause-effect
@@ -28,3 +31,18 @@ returns-in_err-reserve-clause-effect g c =
     (got.1 ∙ ap (λ (x : EngineFault). Err x) got.2)
     (ap (λ v. g.L.Link.store v.link) c.self.view_is)
     (c.in_err-reserve.ensures.events ∙ ap (λ v. v.journal.events) c.self.view_is)
+
+pub returns-clause-effect : goal.returns-clause-effect
+returns-clause-effect g c =
+    let link = c.self.inside.client.link in
+    subst (λ v. Stores (g.L.Link.is_told v.link) (g.L.Link.store v.link)
+    (g.L.Link.store c.store.new.self.link) (g.L.Link.faults v.link)
+    (g.L.Link.faults c.store.new.self.link) c.args.part (given_of g.T.Task.outcome v)
+    v.journal.events c.store.result c.store.new.self.journal.events) c.self.view_is
+    (subst (λ k. Stores (g.L.Link.is_told link) (g.L.Link.store link)
+    (g.L.Link.store c.store.new.self.link) (g.L.Link.faults link)
+    (g.L.Link.faults c.store.new.self.link) c.args.part
+    (given_to c.self.inside.state k (g.L.Link.is_told link) (g.T.Task.outcome c.self.inside.task.now)
+    (kept_for (g.L.Link.store link))) k
+    c.store.result c.store.new.self.journal.events) c.in_ok-reserve.ensures.events
+    c.store.ensures.effect)

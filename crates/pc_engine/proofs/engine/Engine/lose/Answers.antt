@@ -55,13 +55,13 @@ returns-clause-keeps g c =
     let ok = rw (← c.self.view_is) at c.in_ok-may_release.ensures in
     let knows = c.self.invariant.knows in record {
       given = lost-given c.self.inside.state c.self.inside.journal.events
-    (g.L.Link.is_told c.self.inside.client.link)
-    (g.T.Task.outcome c.self.inside.task.now) (kept_for (g.L.Link.store c.self.inside.client.link))
-    c.self.inside.journal.room c.self.invariant c.release-epoch.new.self c.reserve.new.self.events
-    c.push.new.self.events c.args.part c.release-epoch.result _ ok
-    (c.release-epoch.ensures.epoch _ _ knows) (c.release-epoch.ensures.lost _ _ knows)
-    c.in_ok-reserve.ensures.events c.push.ensures.events
-    ∙ ap (λ v. given_of g.T.Task.outcome v) c.self.view_is;
+          (g.L.Link.is_told c.self.inside.client.link)
+          (g.T.Task.outcome c.self.inside.task.now) (kept_for (g.L.Link.store c.self.inside.client.link))
+          c.self.inside.journal.room c.self.invariant c.release-epoch.new.self c.reserve.new.self.events
+          c.push.new.self.events c.args.part c.release-epoch.result _ ok
+          (c.release-epoch.ensures.epoch _ _ knows) (c.release-epoch.ensures.lost _ _ knows)
+          c.in_ok-reserve.ensures.events c.push.ensures.events
+          ∙ ap (λ v. given_of g.T.Task.outcome v) c.self.view_is;
       task = ap (λ v. v.task) c.self.view_is;
       link = ap (λ v. v.link) c.self.view_is;
     }

@@ -1,18 +1,16 @@
 -- The next records of the part are polled, and the poll of them is lawful.
-use Rattle.std.proofs.Common.{◌≡◌, ◌∙◌, ◌++◌, None, Result, Ok, ap, subst, length, map, arith, ℕ}
+use Rattle.std.proofs.Common.{◌≡◌, ◌∙◌, ◌++◌, None, Result, Ok, ap, subst, ℕ}
 use Rattle.pc_offset_client.specs.Client.{kept_for}
 use Rattle.pc_engine.specs.Engine.{given_of}
 use Rattle.pc_engine.specs.declared.fault.EngineFault.{EngineFault}
-use Rattle.pc_state.specs.Calls.{next_records}
 use Rattle.pc_engine.specs.Effect.{poll_refusal, poll_step}
-use Rattle.pc_batch.specs.Record.{plain}
 use Rattle.pc_engine.proofs.EngineLemmas.{refused-none}
-use Rattle.pc_engine.proofs.EnginePoll.{are-next, free-first, may-poll, polled-keeps, polled-given, polled-does}
+use Rattle.pc_engine.proofs.EnginePoll.{free-first, may-poll, polled-keeps, polled-given, polled-does}
 use Rattle.pc_engine.proofs.EngineStep.{given_to}
 use Rattle.pc_engine.proofs.engine.Engine.poll.Goals as goal
 
-pub poll-requires-clause-next : goal.poll-requires-clause-next
-poll-requires-clause-next g c =
+pub poll-requires-clause-held : goal.poll-requires-clause-held
+poll-requires-clause-held g c =
     let none : poll_refusal (given_of g.T.Task.outcome c.args.self.now) c.args.self.now.journal.events c.args.part
     ≡ None = refused-none _ _ c.in_ok-may_poll.ensures in
     let inner : poll_refusal (given_to c.self.inside.state c.self.inside.journal.events
@@ -20,21 +18,12 @@ poll-requires-clause-next g c =
     c.self.inside.journal.events c.args.part ≡ None = rw (← c.self.view_is) at none in
     let held = (may-poll (given_to c.self.inside.state c.self.inside.journal.events
     (g.L.Link.is_told c.self.inside.client.link) (g.T.Task.outcome c.self.inside.task.now) (kept_for (g.L.Link.store c.self.inside.client.link)))
-    c.self.inside.journal.events c.args.part inner).held in
-    let next : map plain c.deref.result.now ≡ (next_records (given_to c.self.inside.state c.self.inside.journal.events
-    (g.L.Link.is_told c.self.inside.client.link) (g.T.Task.outcome c.self.inside.task.now) (kept_for (g.L.Link.store c.self.inside.client.link)))
-    c.self.inside.journal.events c.args.part c.args.max) = rw c.deref.ensures.value
-    (c.in_ok-records.ensures.next (given_to c.self.inside.state c.self.inside.journal.events
-    (g.L.Link.is_told c.self.inside.client.link) (g.T.Task.outcome c.self.inside.task.now) (kept_for (g.L.Link.store c.self.inside.client.link)))
-    c.self.inside.journal.events c.self.invariant.knows held) in (
+    c.self.inside.journal.events c.args.part inner).held in (
       (given_to c.self.inside.state c.self.inside.journal.events
-          (g.L.Link.is_told c.self.inside.client.link) (g.T.Task.outcome c.self.inside.task.now) (kept_for (g.L.Link.store c.self.inside.client.link))),
+    (g.L.Link.is_told c.self.inside.client.link) (g.T.Task.outcome c.self.inside.task.now) (kept_for (g.L.Link.store c.self.inside.client.link))),
       c.self.inside.journal.events,
       c.self.invariant.knows,
       held,
-      are-next (given_to c.self.inside.state c.self.inside.journal.events
-          (g.L.Link.is_told c.self.inside.client.link) (g.T.Task.outcome c.self.inside.task.now) (kept_for (g.L.Link.store c.self.inside.client.link)))
-          c.self.inside.journal.events c.args.part c.self.invariant.knows.legal c.args.max c.deref.result.now next,
     )
 
 pub invariant_of-self-2 : goal.invariant_of-self-2
@@ -47,12 +36,6 @@ invariant_of-self-2 g c =
     let held = (may-poll (given_to c.self.inside.state c.self.inside.journal.events
     (g.L.Link.is_told c.self.inside.client.link) (g.T.Task.outcome c.self.inside.task.now) (kept_for (g.L.Link.store c.self.inside.client.link)))
     c.self.inside.journal.events c.args.part inner).held in
-    let next : map plain c.deref.result.now ≡ (next_records (given_to c.self.inside.state c.self.inside.journal.events
-    (g.L.Link.is_told c.self.inside.client.link) (g.T.Task.outcome c.self.inside.task.now) (kept_for (g.L.Link.store c.self.inside.client.link)))
-    c.self.inside.journal.events c.args.part c.args.max) = rw c.deref.ensures.value
-    (c.in_ok-records.ensures.next (given_to c.self.inside.state c.self.inside.journal.events
-    (g.L.Link.is_told c.self.inside.client.link) (g.T.Task.outcome c.self.inside.task.now) (kept_for (g.L.Link.store c.self.inside.client.link)))
-    c.self.inside.journal.events c.self.invariant.knows held) in
     let left = c.in-Some.ensures (given_to c.self.inside.state c.self.inside.journal.events
     (g.L.Link.is_told c.self.inside.client.link) (g.T.Task.outcome c.self.inside.task.now) (kept_for (g.L.Link.store c.self.inside.client.link)))
     c.self.inside.journal.events c.self.invariant.knows held in
@@ -62,26 +45,18 @@ invariant_of-self-2 g c =
     (g.L.Link.is_told c.self.inside.client.link) (g.T.Task.outcome c.self.inside.task.now) (kept_for (g.L.Link.store c.self.inside.client.link)))
     c.self.inside.journal.events c.self.invariant.knows held) in
     let room_left = rw (← c.self.view_is) at c.in_ok-has_room.ensures in
-    let next2 : map plain c.deref-2.result.now ≡ (next_records (given_to c.self.inside.state c.self.inside.journal.events
+    let taken = c.in_ok-taken.ensures.taken (given_to c.self.inside.state c.self.inside.journal.events
     (g.L.Link.is_told c.self.inside.client.link) (g.T.Task.outcome c.self.inside.task.now) (kept_for (g.L.Link.store c.self.inside.client.link)))
-    c.self.inside.journal.events c.args.part c.args.max) = rw c.deref-2.ensures.value
-    (c.in_ok-records.ensures.next (given_to c.self.inside.state c.self.inside.journal.events
-    (g.L.Link.is_told c.self.inside.client.link) (g.T.Task.outcome c.self.inside.task.now) (kept_for (g.L.Link.store c.self.inside.client.link)))
-    c.self.inside.journal.events c.self.invariant.knows held) in
+    c.self.inside.journal.events c.self.invariant.knows held in
     polled-keeps c.self.inside.state c.self.inside.journal.events
     (g.L.Link.is_told c.self.inside.client.link) (g.T.Task.outcome c.self.inside.task.now) (kept_for (g.L.Link.store c.self.inside.client.link))
     c.self.inside.journal.room c.self.invariant c.args.part c.args.max c.in-Some.first inner
-    c.requires.some left free c.deref.result.now next c.poll.new.self c.reserve.new.self.events
+    c.requires.some left free c.poll.new.self c.reserve.new.self.events
     c.push.new.self.events c.reserve.new.self.room c.push.new.self.room c.outstanding.result
-    c.len-count.result c.last_of-last.result _ room_left
-    (let n = ap length c.deref.ensures.value in let m = c.in_ok-records.records.ok.0 in
-    let k = c.len-count.ensures in omega (arith, n, m, k))
-    (λ o. c.in_ok-poll.ensures.polled (given_to c.self.inside.state c.self.inside.journal.events
-    (g.L.Link.is_told c.self.inside.client.link) (g.T.Task.outcome c.self.inside.task.now) (kept_for (g.L.Link.store c.self.inside.client.link)))
-    c.self.inside.journal.events o c.self.invariant.knows held (are-next (given_to c.self.inside.state c.self.inside.journal.events
-    (g.L.Link.is_told c.self.inside.client.link) (g.T.Task.outcome c.self.inside.task.now) (kept_for (g.L.Link.store c.self.inside.client.link)))
-    c.self.inside.journal.events c.args.part c.self.invariant.knows.legal c.args.max c.deref.result.now next))
-    (c.last_of-last.ensures _ next2) c.in_ok-reserve.ensures.events c.push.ensures.events
+    c.in_ok-taken.taken.count c.in_ok-taken.taken.last _ room_left taken.count
+    (c.in_ok-taken.ensures.polled (given_to c.self.inside.state c.self.inside.journal.events
+    (g.L.Link.is_told c.self.inside.client.link) (g.T.Task.outcome c.self.inside.task.now) (kept_for (g.L.Link.store c.self.inside.client.link))) c.self.inside.journal.events c.self.invariant.knows held)
+    taken.last c.in_ok-reserve.ensures.events c.push.ensures.events
     (c.outstanding.ensures _ _ c.self.invariant.knows) c.in_ok-reserve.ensures.room c.push.ensures.room
 
 pub returns-clause-effect : goal.returns-clause-effect
@@ -94,12 +69,6 @@ returns-clause-effect g c =
     let held = (may-poll (given_to c.self.inside.state c.self.inside.journal.events
     (g.L.Link.is_told c.self.inside.client.link) (g.T.Task.outcome c.self.inside.task.now) (kept_for (g.L.Link.store c.self.inside.client.link)))
     c.self.inside.journal.events c.args.part inner).held in
-    let next : map plain c.deref.result.now ≡ (next_records (given_to c.self.inside.state c.self.inside.journal.events
-    (g.L.Link.is_told c.self.inside.client.link) (g.T.Task.outcome c.self.inside.task.now) (kept_for (g.L.Link.store c.self.inside.client.link)))
-    c.self.inside.journal.events c.args.part c.args.max) = rw c.deref.ensures.value
-    (c.in_ok-records.ensures.next (given_to c.self.inside.state c.self.inside.journal.events
-    (g.L.Link.is_told c.self.inside.client.link) (g.T.Task.outcome c.self.inside.task.now) (kept_for (g.L.Link.store c.self.inside.client.link)))
-    c.self.inside.journal.events c.self.invariant.knows held) in
     let left = c.in-Some.ensures (given_to c.self.inside.state c.self.inside.journal.events
     (g.L.Link.is_told c.self.inside.client.link) (g.T.Task.outcome c.self.inside.task.now) (kept_for (g.L.Link.store c.self.inside.client.link)))
     c.self.inside.journal.events c.self.invariant.knows held in
@@ -109,32 +78,23 @@ returns-clause-effect g c =
     (g.L.Link.is_told c.self.inside.client.link) (g.T.Task.outcome c.self.inside.task.now) (kept_for (g.L.Link.store c.self.inside.client.link)))
     c.self.inside.journal.events c.self.invariant.knows held) in
     let room_left = rw (← c.self.view_is) at c.in_ok-has_room.ensures in
-    let next2 : map plain c.deref-2.result.now ≡ (next_records (given_to c.self.inside.state c.self.inside.journal.events
+    let taken = c.in_ok-taken.ensures.taken (given_to c.self.inside.state c.self.inside.journal.events
     (g.L.Link.is_told c.self.inside.client.link) (g.T.Task.outcome c.self.inside.task.now) (kept_for (g.L.Link.store c.self.inside.client.link)))
-    c.self.inside.journal.events c.args.part c.args.max) = rw c.deref-2.ensures.value
-    (c.in_ok-records.ensures.next (given_to c.self.inside.state c.self.inside.journal.events
-    (g.L.Link.is_told c.self.inside.client.link) (g.T.Task.outcome c.self.inside.task.now) (kept_for (g.L.Link.store c.self.inside.client.link)))
-    c.self.inside.journal.events c.self.invariant.knows held) in
-    subst (λ v. (◌≡◌ {A = Result ℕ EngineFault} (Ok c.len-count.result)
+    c.self.inside.journal.events c.self.invariant.knows held in
+    subst (λ v. (◌≡◌ {A = Result ℕ EngineFault} (Ok c.in_ok-taken.taken.count)
     (poll_step (given_of g.T.Task.outcome v) v.journal.events c.args.part c.args.max).answer)
     × (c.push.new.self.events
     ≡ (poll_step (given_of g.T.Task.outcome v) v.journal.events c.args.part c.args.max).events ++ v.journal.events))
     c.self.view_is (polled-does c.self.inside.state c.self.inside.journal.events
     (g.L.Link.is_told c.self.inside.client.link) (g.T.Task.outcome c.self.inside.task.now) (kept_for (g.L.Link.store c.self.inside.client.link))
     c.self.inside.journal.room c.self.invariant c.args.part c.args.max c.in-Some.first inner
-    c.requires.some left free c.deref.result.now next c.poll.new.self c.reserve.new.self.events
+    c.requires.some left free c.poll.new.self c.reserve.new.self.events
     c.push.new.self.events c.reserve.new.self.room c.push.new.self.room c.outstanding.result
-    c.len-count.result c.last_of-last.result _ room_left
-    (let n = ap length c.deref.ensures.value in let m = c.in_ok-records.records.ok.0 in
-    let k = c.len-count.ensures in omega (arith, n, m, k))
-    (λ o. c.in_ok-poll.ensures.polled (given_to c.self.inside.state c.self.inside.journal.events
-    (g.L.Link.is_told c.self.inside.client.link) (g.T.Task.outcome c.self.inside.task.now) (kept_for (g.L.Link.store c.self.inside.client.link)))
-    c.self.inside.journal.events o c.self.invariant.knows held (are-next (given_to c.self.inside.state c.self.inside.journal.events
-    (g.L.Link.is_told c.self.inside.client.link) (g.T.Task.outcome c.self.inside.task.now) (kept_for (g.L.Link.store c.self.inside.client.link)))
-    c.self.inside.journal.events c.args.part c.self.invariant.knows.legal c.args.max c.deref.result.now next))
-    (c.last_of-last.ensures _ next2) c.in_ok-reserve.ensures.events c.push.ensures.events
-    (c.outstanding.ensures _ _ c.self.invariant.knows) c.in_ok-reserve.ensures.room c.push.ensures.room
-    )
+    c.in_ok-taken.taken.count c.in_ok-taken.taken.last _ room_left taken.count
+    (c.in_ok-taken.ensures.polled (given_to c.self.inside.state c.self.inside.journal.events
+    (g.L.Link.is_told c.self.inside.client.link) (g.T.Task.outcome c.self.inside.task.now) (kept_for (g.L.Link.store c.self.inside.client.link))) c.self.inside.journal.events c.self.invariant.knows held)
+    taken.last c.in_ok-reserve.ensures.events c.push.ensures.events
+    (c.outstanding.ensures _ _ c.self.invariant.knows) c.in_ok-reserve.ensures.room c.push.ensures.room)
 
 pub returns-clause-keeps : goal.returns-clause-keeps
 returns-clause-keeps g c =
@@ -146,12 +106,6 @@ returns-clause-keeps g c =
     let held = (may-poll (given_to c.self.inside.state c.self.inside.journal.events
     (g.L.Link.is_told c.self.inside.client.link) (g.T.Task.outcome c.self.inside.task.now) (kept_for (g.L.Link.store c.self.inside.client.link)))
     c.self.inside.journal.events c.args.part inner).held in
-    let next : map plain c.deref.result.now ≡ (next_records (given_to c.self.inside.state c.self.inside.journal.events
-    (g.L.Link.is_told c.self.inside.client.link) (g.T.Task.outcome c.self.inside.task.now) (kept_for (g.L.Link.store c.self.inside.client.link)))
-    c.self.inside.journal.events c.args.part c.args.max) = rw c.deref.ensures.value
-    (c.in_ok-records.ensures.next (given_to c.self.inside.state c.self.inside.journal.events
-    (g.L.Link.is_told c.self.inside.client.link) (g.T.Task.outcome c.self.inside.task.now) (kept_for (g.L.Link.store c.self.inside.client.link)))
-    c.self.inside.journal.events c.self.invariant.knows held) in
     let left = c.in-Some.ensures (given_to c.self.inside.state c.self.inside.journal.events
     (g.L.Link.is_told c.self.inside.client.link) (g.T.Task.outcome c.self.inside.task.now) (kept_for (g.L.Link.store c.self.inside.client.link)))
     c.self.inside.journal.events c.self.invariant.knows held in
@@ -161,26 +115,19 @@ returns-clause-keeps g c =
     (g.L.Link.is_told c.self.inside.client.link) (g.T.Task.outcome c.self.inside.task.now) (kept_for (g.L.Link.store c.self.inside.client.link)))
     c.self.inside.journal.events c.self.invariant.knows held) in
     let room_left = rw (← c.self.view_is) at c.in_ok-has_room.ensures in
-    let next2 : map plain c.deref-2.result.now ≡ (next_records (given_to c.self.inside.state c.self.inside.journal.events
+    let taken = c.in_ok-taken.ensures.taken (given_to c.self.inside.state c.self.inside.journal.events
     (g.L.Link.is_told c.self.inside.client.link) (g.T.Task.outcome c.self.inside.task.now) (kept_for (g.L.Link.store c.self.inside.client.link)))
-    c.self.inside.journal.events c.args.part c.args.max) = rw c.deref-2.ensures.value
-    (c.in_ok-records.ensures.next (given_to c.self.inside.state c.self.inside.journal.events
-    (g.L.Link.is_told c.self.inside.client.link) (g.T.Task.outcome c.self.inside.task.now) (kept_for (g.L.Link.store c.self.inside.client.link)))
-    c.self.inside.journal.events c.self.invariant.knows held) in
-    polled-given c.self.inside.state c.self.inside.journal.events
+    c.self.inside.journal.events c.self.invariant.knows held in
+    record {
+      given = polled-given c.self.inside.state c.self.inside.journal.events
     (g.L.Link.is_told c.self.inside.client.link) (g.T.Task.outcome c.self.inside.task.now) (kept_for (g.L.Link.store c.self.inside.client.link))
     c.self.inside.journal.room c.self.invariant c.args.part c.args.max c.in-Some.first inner
-    c.requires.some left free c.deref.result.now next c.poll.new.self c.reserve.new.self.events
+    c.requires.some left free c.poll.new.self c.reserve.new.self.events
     c.push.new.self.events c.reserve.new.self.room c.push.new.self.room c.outstanding.result
-    c.len-count.result c.last_of-last.result _ room_left
-    (let n = ap length c.deref.ensures.value in let m = c.in_ok-records.records.ok.0 in record {
-      given = let k = c.len-count.ensures in omega (arith, n, m, k))
-    (λ o. c.in_ok-poll.ensures.polled (given_to c.self.inside.state c.self.inside.journal.events
-    (g.L.Link.is_told c.self.inside.client.link) (g.T.Task.outcome c.self.inside.task.now) (kept_for (g.L.Link.store c.self.inside.client.link)))
-    c.self.inside.journal.events o c.self.invariant.knows held (are-next (given_to c.self.inside.state c.self.inside.journal.events
-    (g.L.Link.is_told c.self.inside.client.link) (g.T.Task.outcome c.self.inside.task.now) (kept_for (g.L.Link.store c.self.inside.client.link)))
-    c.self.inside.journal.events c.args.part c.self.invariant.knows.legal c.args.max c.deref.result.now next))
-    (c.last_of-last.ensures _ next2) c.in_ok-reserve.ensures.events c.push.ensures.events
+    c.in_ok-taken.taken.count c.in_ok-taken.taken.last _ room_left taken.count
+    (c.in_ok-taken.ensures.polled (given_to c.self.inside.state c.self.inside.journal.events
+    (g.L.Link.is_told c.self.inside.client.link) (g.T.Task.outcome c.self.inside.task.now) (kept_for (g.L.Link.store c.self.inside.client.link))) c.self.inside.journal.events c.self.invariant.knows held)
+    taken.last c.in_ok-reserve.ensures.events c.push.ensures.events
     (c.outstanding.ensures _ _ c.self.invariant.knows) c.in_ok-reserve.ensures.room c.push.ensures.room
     ∙ ap (λ v. given_of g.T.Task.outcome v) c.self.view_is;
       task = ap (λ v. v.task) c.self.view_is;

@@ -203,19 +203,19 @@ returns-clause-asks g c =
     (g.L.Link.faults c.args.self.now.link) (g.L.Link.faults link2) c.store.result
     c.in_ok-failed.failed refused c.in_ok-failed.ensures stores2 may.0 in record {
       given = revoked-given (given_of g.T.Task.outcome c.args.self.now) c.args.self.now.journal.events
-    c.self-2.inside.journal.events c.args.part (g.L.Link.is_told c.args.self.now.link)
-    (g.L.Link.store c.args.self.now.link) (g.L.Link.store link2)
-    (g.L.Link.faults c.args.self.now.link) (g.L.Link.faults link2) c.store.result
-    c.in_ok-failed.failed refused c.in_ok-failed.ensures stores2
-    c.self-2.inside.state c.release-epoch.new.self (g.L.Link.is_told link2)
-    (g.T.Task.outcome c.self-2.inside.task.now) (kept_for (g.L.Link.store link2)) c.self-2.inside.journal.room c.self-2.invariant may.1
-    (c.release-epoch.ensures.revoked _ _ c.self-2.invariant.knows held) c.push.new.self.events
-    c.release-epoch.result (c.release-epoch.ensures.epoch _ _ c.self-2.invariant.knows held)
-    c.push.ensures.events
-    ∙ ap (λ v. (given_of g.T.Task.outcome v)) c.self-2.view_is ∙ c.store.ensures.asks.given
-    ∙ ap (λ k. given_to c.self.inside.state k (g.L.Link.is_told link)
-    (g.T.Task.outcome c.self.inside.task.now) (kept_for (g.L.Link.store link))) c.in_ok-reserve.ensures.events
-    ∙ ap (λ v. given_of g.T.Task.outcome v) c.self.view_is;
+          c.self-2.inside.journal.events c.args.part (g.L.Link.is_told c.args.self.now.link)
+          (g.L.Link.store c.args.self.now.link) (g.L.Link.store link2)
+          (g.L.Link.faults c.args.self.now.link) (g.L.Link.faults link2) c.store.result
+          c.in_ok-failed.failed refused c.in_ok-failed.ensures stores2
+          c.self-2.inside.state c.release-epoch.new.self (g.L.Link.is_told link2)
+          (g.T.Task.outcome c.self-2.inside.task.now) (kept_for (g.L.Link.store link2)) c.self-2.inside.journal.room c.self-2.invariant may.1
+          (c.release-epoch.ensures.revoked _ _ c.self-2.invariant.knows held) c.push.new.self.events
+          c.release-epoch.result (c.release-epoch.ensures.epoch _ _ c.self-2.invariant.knows held)
+          c.push.ensures.events
+          ∙ ap (λ v. (given_of g.T.Task.outcome v)) c.self-2.view_is ∙ c.store.ensures.asks.given
+          ∙ ap (λ k. given_to c.self.inside.state k (g.L.Link.is_told link)
+          (g.T.Task.outcome c.self.inside.task.now) (kept_for (g.L.Link.store link))) c.in_ok-reserve.ensures.events
+          ∙ ap (λ v. given_of g.T.Task.outcome v) c.self.view_is;
       task = ap (λ v. v.task) c.self-2.view_is ∙ c.store.ensures.asks.task
           ∙ ap (λ v. v.task) c.self.view_is;
       told = ap (λ v. g.L.Link.is_told v.link) c.self-2.view_is ∙ c.store.ensures.asks.told

@@ -117,28 +117,28 @@ returns-in-Ok-clause-asks g c =
     let commit_is : c.in_ok-sized.sized ≡ commit_of (given_to c.self.inside.state c.self.inside.journal.events
     (g.L.Link.is_told c.self.inside.client.link) (g.T.Task.outcome c.self.inside.task.now) (kept_for (g.L.Link.store c.self.inside.client.link)))
     c.self.inside.journal.events c.args.part = rw (← c.self.view_is) at c.in_ok-sized.ensures.commit in
-    committed-given c.self.inside.state c.self.inside.journal.events
-    (g.L.Link.is_told c.self.inside.client.link) (g.T.Task.outcome c.self.inside.task.now) (kept_for (g.L.Link.store c.self.inside.client.link))
-    c.self.inside.journal.room c.self.invariant c.args.part inner c.in_ok-sized.sized
-    commit_is
-    (kept_for (g.L.Link.store c.commit.new.self.link)) c.committed.new.self
-    (g.L.Link.is_told c.commit.new.self.link) c.commit.ensures.told c.push.new.self.events
-    c.push.new.self.room
-    (let enough = rw (← c.self.view_is) at c.requires.room in record {
-      given = let less = c.push.ensures.room in omega (arith, enough, less))
-    (λ is. kept_for-accepts _ _ _ _ (c.in-Ok.ensures.gives is))
-    (c.committed.ensures.stored (given_to c.self.inside.state c.self.inside.journal.events
-    (g.L.Link.is_told c.self.inside.client.link) (g.T.Task.outcome c.self.inside.task.now) (kept_for (g.L.Link.store c.self.inside.client.link)))
-    c.self.inside.journal.events c.in_ok-sized.sized.commit.position c.in_ok-sized.sized.commit.map c.self.invariant.knows)
-    c.push.ensures.events
-    ∙ ap (λ v. given_of g.T.Task.outcome v) c.self.view_is;
+    record {
+      given = committed-given c.self.inside.state c.self.inside.journal.events
+          (g.L.Link.is_told c.self.inside.client.link) (g.T.Task.outcome c.self.inside.task.now) (kept_for (g.L.Link.store c.self.inside.client.link))
+          c.self.inside.journal.room c.self.invariant c.args.part inner c.in_ok-sized.sized
+          commit_is
+          (kept_for (g.L.Link.store c.commit.new.self.link)) c.committed.new.self
+          (g.L.Link.is_told c.commit.new.self.link) c.commit.ensures.told c.push.new.self.events
+          c.push.new.self.room
+          (let enough = rw (← c.self.view_is) at c.requires.room in
+          let less = c.push.ensures.room in omega (arith, enough, less))
+          (λ is. kept_for-accepts _ _ _ _ (c.in-Ok.ensures.gives is))
+          (c.committed.ensures.stored (given_to c.self.inside.state c.self.inside.journal.events
+          (g.L.Link.is_told c.self.inside.client.link) (g.T.Task.outcome c.self.inside.task.now) (kept_for (g.L.Link.store c.self.inside.client.link)))
+          c.self.inside.journal.events c.in_ok-sized.sized.commit.position c.in_ok-sized.sized.commit.map c.self.invariant.knows)
+          c.push.ensures.events
+          ∙ ap (λ v. given_of g.T.Task.outcome v) c.self.view_is;
       task = ap (λ v. v.task) c.self.view_is;
       told = c.commit.ensures.told
           ∙ ap (λ v. g.L.Link.is_told v.link) c.self.view_is;
       count = subst (λ v. g.L.Link.faults v.link ≤ g.L.Link.faults c.commit.new.self.link)
           c.self.view_is c.commit.ensures.count;
     }
-
 
 pub returns-in-Ok-clause-others : goal.returns-in-Ok-clause-others
 returns-in-Ok-clause-others g c =
@@ -164,21 +164,22 @@ returns-in_ok-fault-in-Err-clause-asks g c =
     let commit_is : c.in_ok-sized.sized ≡ commit_of (given_to c.self.inside.state c.self.inside.journal.events
     (g.L.Link.is_told c.self.inside.client.link) (g.T.Task.outcome c.self.inside.task.now) (kept_for (g.L.Link.store c.self.inside.client.link)))
     c.self.inside.journal.events c.args.part = rw (← c.self.view_is) at c.in_ok-sized.ensures.commit in
-    failed-given c.self.inside.state c.self.inside.journal.events
-    (g.L.Link.is_told c.self.inside.client.link) (g.T.Task.outcome c.self.inside.task.now) (kept_for (g.L.Link.store c.self.inside.client.link))
-    c.self.inside.journal.room c.self.invariant c.args.part inner c.in_ok-sized.sized
-    commit_is
-    (kept_for (g.L.Link.store c.commit.new.self.link)) c.committed-in-Err.new.self
-    (g.L.Link.is_told c.commit.new.self.link) c.commit.ensures.told c.push-in-Err.new.self.events
-    c.push-in-Err.new.self.room
-    (let enough = rw (← c.self.view_is) at c.requires.room in record {
-      given = let less = c.push-in-Err.ensures.room in omega (arith, enough, less))
-    (λ is. may_keep-failed _ _ _ _ c.in-Err.fault (c.in-Err.ensures.gives is))
-    (c.committed-in-Err.ensures.failed (given_to c.self.inside.state c.self.inside.journal.events
-    (g.L.Link.is_told c.self.inside.client.link) (g.T.Task.outcome c.self.inside.task.now) (kept_for (g.L.Link.store c.self.inside.client.link)))
-    c.self.inside.journal.events c.in_ok-sized.sized.commit.position c.in_ok-sized.sized.commit.map c.self.invariant.knows)
-    c.push-in-Err.ensures.events
-    ∙ ap (λ v. given_of g.T.Task.outcome v) c.self.view_is;
+    record {
+      given = failed-given c.self.inside.state c.self.inside.journal.events
+          (g.L.Link.is_told c.self.inside.client.link) (g.T.Task.outcome c.self.inside.task.now) (kept_for (g.L.Link.store c.self.inside.client.link))
+          c.self.inside.journal.room c.self.invariant c.args.part inner c.in_ok-sized.sized
+          commit_is
+          (kept_for (g.L.Link.store c.commit.new.self.link)) c.committed-in-Err.new.self
+          (g.L.Link.is_told c.commit.new.self.link) c.commit.ensures.told c.push-in-Err.new.self.events
+          c.push-in-Err.new.self.room
+          (let enough = rw (← c.self.view_is) at c.requires.room in
+          let less = c.push-in-Err.ensures.room in omega (arith, enough, less))
+          (λ is. may_keep-failed _ _ _ _ c.in-Err.fault (c.in-Err.ensures.gives is))
+          (c.committed-in-Err.ensures.failed (given_to c.self.inside.state c.self.inside.journal.events
+          (g.L.Link.is_told c.self.inside.client.link) (g.T.Task.outcome c.self.inside.task.now) (kept_for (g.L.Link.store c.self.inside.client.link)))
+          c.self.inside.journal.events c.in_ok-sized.sized.commit.position c.in_ok-sized.sized.commit.map c.self.invariant.knows)
+          c.push-in-Err.ensures.events
+          ∙ ap (λ v. given_of g.T.Task.outcome v) c.self.view_is;
       task = ap (λ v. v.task) c.self.view_is;
       told = c.commit.ensures.told
           ∙ ap (λ v. g.L.Link.is_told v.link) c.self.view_is;

@@ -46,4 +46,4 @@ returns c = λ given h knows may. knows-crashed given h c.args.self.now
       dispatched = refl;
       last = refl;
     })
-    may
+    may (c.crash.ensures given h knows.ledger)

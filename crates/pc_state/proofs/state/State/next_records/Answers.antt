@@ -1,27 +1,27 @@
--- The next records are those of the log from an offset on, up to what presses.
+-- The next records are those that are left of the log, up to what presses.
 use Rattle.std.proofs.Common.{◌-◌, ap, sym, ◌∙◌}
 use Rattle.std.specs.Prelude.{◌^◌, unwrap_or}
-use Rattle.std.proofs.lemmas.Result.{IfOk-weaker}
-use Rattle.pc_broker_log.specs.Logs.{log_at, upto}
-use Rattle.pc_cursor.specs.Cursor.{not_below}
-use Rattle.pc_state.proofs.PartEvents.{held-has_log}
-use Rattle.pc_state.proofs.QueryLemmas.{plain-few, plain-next, read-none}
+use Rattle.pc_cursor.specs.declared.cursor.Cursor.{Cursor}
+use Rattle.pc_state.proofs.QueryLemmas.{are-next, first-few, next-taken}
 use Rattle.pc_state.proofs.state.State.next_records.Goals as goal
 
-pub returns-in-Some-known_upto-clause-next : goal.returns-in-Some-known_upto-clause-next
-returns-in-Some-known_upto-clause-next c = IfOk-weaker c.first_of.result _ _
-    (λ records is given h knows held. plain-next given h c.args.part c.in-Some.held.now.next c.args.max
-    c.unwrap_or-upto.result records.items c.in-Some-known_upto.next knows.legal held
-    (c.in-Some.ensures.knows given h knows).1.unpolled
+pub returns-clause-next : goal.returns-clause-next
+returns-clause-next c = λ given h knows held.
+    c.new.ensures.left ∙ next-taken given h c.args.part c.args.max c.unwrap_or-upto.result
+    c.again.result.left knows.legal held
+    ((c.in_ok-held.ensures.knows given h knows).1.unpolled ∙ ap (λ (x : Cursor). x.left) (sym c.again.ensures))
     (c.unwrap_or-upto.ensures ∙ ap (λ o. unwrap_or o (2 ^ 64 - 1)) (c.pressing.ensures given h knows held))
-    (rw knows.logs (sym c.in-Some-known_upto.ensures)) is) c.first_of.ensures
 
-pub returns-in-Some-known_upto-clause-few : goal.returns-in-Some-known_upto-clause-few
-returns-in-Some-known_upto-clause-few c = IfOk-weaker c.first_of.result _ _
-    (λ records is. plain-few c.args.max records.items _ is) c.first_of.ensures
+pub returns-clause-are : goal.returns-clause-are
+returns-clause-are c = λ given h knows held.
+    are-next c.args.max c.unwrap_or-upto.result _ c.again.result.left c.new.result.left
+    ((c.in_ok-held.ensures.knows given h knows).1.unpolled ∙ ap (λ (x : Cursor). x.left) (sym c.again.ensures))
+    c.new.ensures.left
 
-pub returns-in-None-clause-next : goal.returns-in-None-clause-next
-returns-in-None-clause-next c = λ given h knows held. absurd
-    (read-none (log_at given.logs c.args.part)
-    (λ log. upto c.unwrap_or-upto.result (not_below c.in-Some.held.now.next log))
-    (rw knows.logs (sym c.in-None.ensures)) (held-has_log given h c.args.part knows.legal held))
+pub returns-clause-log : goal.returns-clause-log
+returns-clause-log c = λ given h knows held. c.new.ensures.log ∙ ap (λ (x : Cursor). x.left) c.again.ensures
+    ∙ sym (c.in_ok-held.ensures.knows given h knows).1.unpolled
+
+pub returns-clause-few : goal.returns-clause-few
+returns-clause-few c = let few = first-few c.args.max c.unwrap_or-upto.result c.again.result.left in
+    rw c.new.ensures.left few

@@ -45,7 +45,7 @@ pub returns-in-Some : goal.returns-in-Some
 returns-in-Some c = λ given h job answer knows kept part offset epoch held may.
     let next : HeldPart = record {
       window = c.succeed.new.self;
-      next = c.in-Some.held.next;
+      rest = c.in-Some.held.rest;
       size = c.in-Some.held.size;
     } in
     let state : PartState = record { epoch = c.index_mut.result.now.epoch; held = Some next } in
@@ -81,6 +81,8 @@ returns-in-Some c = λ given h job answer knows kept part offset epoch held may.
     })
     c.index_mut.ensures.value c.in-Some.is refl refl c.succeed.ensures refl refl
     (c.remove.ensures h (Success c.args.ticket answer) knows.jobs)
+    (c.succeed.ensures given h c.args.ticket answer work.job knows.ledger JOB_OF work.part work.epoch
+    (polled-below given h c.args.part at.entry at.polled) held)
 
 pub returns-in_default : goal.returns-in_default
 returns-in_default c = λ given h job answer knows kept part offset epoch held may.

@@ -1,7 +1,0 @@
-use Rattle.std.proofs.Common.{refl}
-use Rattle.parcon.proofs.WordsLemmas.{files-test}
-use Rattle.parcon.proofs.command.are_files.Goals as goal
-
-pub returns-then-is_play_count : goal.returns-then-is_play_count
-returns-then-is_play_count c = files-test c.args.words.now _ c.are_names.result refl
-    c.if-is_play_count.ensures c.are_names.ensures

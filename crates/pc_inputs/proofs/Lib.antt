@@ -1,0 +1,7 @@
+mod ListLemmas
+mod LogFaultLemmas
+mod WordLooks
+mod WordSteps
+mod WordsLemmas
+pub mod ReadingLemmas
+pub mod PlanLemmas

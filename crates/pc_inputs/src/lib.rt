@@ -1,0 +1,20 @@
+//! What a command reads before anything is played: its words, its files, and the plan that they make.
+//!
+//! `read_files` gives the bytes of the files that the words name, and `plan_of` what they ask for. Each
+//! fails with a `Status`, whose fault line `put_fault` appends.
+#![tactic(auto)]
+
+mod command;
+mod config_fault;
+mod configuration;
+mod fault_line;
+mod log_fault;
+mod plan;
+mod reading;
+mod status;
+mod words;
+
+pub use fault_line::put_fault;
+pub use plan::{Plan, plan_of};
+pub use reading::{LogText, Texts, read_files};
+pub use status::{LimitKind, NO_MEMORY, Status};

@@ -1,0 +1,452 @@
+-- What the call of a line makes of a history and of the jobs in hand.
+use Rattle.std.proofs.Common.{◌≡◌, ◌≤◌, ℕ, Bool, true, false, ◌&&◌, ◌==◌, inl, inr, List, ◌++◌, Option, Some, None, Result, Ok, Err, refl, ap, sym, subst, ◌∙◌, arith, true≢false}
+use Rattle.std.specs.Prelude.{IfOk, IsErr, MatchResult, OnErr}
+use Rattle.std.proofs.lemmas.Bool.{cases_Bool}
+use Rattle.pc_model.specs.declared.commit.Commit.{Commit as StoredCommit}
+use Rattle.pc_model.specs.declared.event.Event.{Event}
+use Rattle.pc_model.specs.Broker.{Broker}
+use Rattle.pc_model.specs.Given.{Given, no_commit}
+use Rattle.pc_model.specs.Epochs.{epoch_of, is_held}
+use Rattle.pc_model.specs.Known.{commit_of}
+use Rattle.pc_model.specs.Jobs.{has_ended}
+use Rattle.pc_script.specs.declared.play.PlayAct.{PlayAct}
+use Rattle.pc_script.specs.declared.play.PlayAct.TheVariants.{Assign, Commit, Poll, Take, End, Tick, Revoke, Lose, Crash}
+use Rattle.pc_offset_client.specs.declared.fault.ClientFault.{ClientFault}
+use Rattle.pc_offset_client.specs.declared.fault.ClientFault.TheVariants as client
+use Rattle.pc_task.specs.Jobs.{PlainJob, due_outcome}
+use Rattle.pc_task.specs.Results.{finished_job}
+use Rattle.pc_task.specs.declared.finished.Finished.{Finished}
+use Rattle.pc_engine.specs.declared.engine.Committed.{Committed}
+use Rattle.pc_engine.specs.declared.fault.EngineFault.{EngineFault}
+use Rattle.pc_engine.specs.declared.fault.EngineFault.TheVariants.{NoMemory}
+use Rattle.pc_engine.specs.declared.settled.Settled.{Settled}
+use Rattle.pc_engine.specs.declared.settled.Settled.TheVariants as settled
+use Rattle.pc_model.specs.declared.outcome.Outcome.{Outcome}
+use Rattle.pc_model.specs.declared.outcome.Outcome.TheVariants.{Good, Bad}
+use Rattle.pc_state.specs.Calls.{IsExpected}
+use Rattle.pc_engine.specs.Effect.{Step, Does, IsFetched, IsStored, KeepsStore, Settles, assign_after, assign_refusal, assign_step, commit_after, commit_refusal, commit_step, crash_step, lose_step, poll_step, revoke_after, revoke_refusal, revoke_step, settle_current, settle_step, take_step, tick_step}
+use Rattle.pc_play.specs.declared.hand.Hand.{Hand}
+use Rattle.pc_play.specs.declared.remark.Notice.{Notice}
+use Rattle.pc_play.specs.declared.remark.Notice.TheVariants.{Refused, Stranger}
+use Rattle.pc_play.specs.Hand.{AreIn, HasInHand, job_with, without}
+use Rattle.pc_play.specs.Play.{Asked, Breaks, Calls, Fetches, IsAborted, Makes, Moment, Stores, Unless, call_notice, done_by, end_job, end_step, hand_after, poll_notice, settled_notice, take_notice, tick_notice}
+use Rattle.pc_play.proofs.NoLine.{aborted-same}
+use Rattle.pc_play.proofs.HandLemmas.{Expects, assign-expects, commit-expects, crash-expects, end-expects, job_with-but, job_with-is, lose-expects, poll-expects, revoke-expects, take-expects, tick-expects}
+
+-- ---- the parts of what is in hand
+
+expects-of : (given : Given) (h : List Event) (jobs : List PlainJob) (hand : Hand)
+    → HasInHand given h jobs hand → Expects given h jobs
+expects-of given h jobs hand has = record { expected = has.expected; fresh = has.fresh }
+
+has-after : (given : Given) (h k : List Event) (jobs : List PlainJob) (hand : Hand) → k ≡ h
+    → AreIn hand jobs → Expects given h jobs → HasInHand given k jobs hand
+has-after given h k jobs hand same are e =
+    subst (λ (x : List Event). HasInHand given x jobs hand) (sym same)
+    (record { each = are; expected = e.expected; fresh = e.fresh })
+
+-- ---- answers
+
+-- a call that did not want memory did its step
+does-is : {A : Type 0} (r : Result A EngineFault) (step : Step A) (h h' : List Event)
+    → (r ≡ Err NoMemory → ⊥) → Does r step h h' → (r ≡ step.answer) × (h' ≡ step.events ++ h)
+does-is (Ok x) step h h' other does = does
+does-is (Err NoMemory) step h h' other does = absurd (other refl)
+does-is (Err fault) step h h' other does = does
+
+pub ok-wants : {A : Type 0} (x : A) → ◌≡◌ {A = Result A EngineFault} (Ok x) (Err NoMemory) → ⊥
+ok-wants x is = cc
+
+pub err-wants : {A : Type 0} (fault : EngineFault) → (fault ≡ NoMemory → ⊥)
+    → ◌≡◌ {A = Result A EngineFault} (Err fault) (Err NoMemory) → ⊥
+err-wants fault other is = other cc
+
+-- ---- the link
+
+-- want of memory adds nothing
+broke : {A : Type 0} (step : Step A) (fault : EngineFault) (h h' : List Event) → fault ≡ NoMemory
+    → Does (Err fault) step h h' → h' ≡ h
+broke {A} step fault h h' none does =
+    subst (λ (x : EngineFault). Does {A = A} (Err x) step h h') none does
+
+-- and leaves a told store
+forgot-keeps : (A : Type 0) (fault : EngineFault) (b b' : Broker) → fault ≡ NoMemory
+    → KeepsStore {A = A} (Err fault) b b' → b' ≡ b
+forgot-keeps A fault b b' none keeps =
+    subst (λ (x : EngineFault). KeepsStore {A = A} (Err x) b b') none keeps
+
+-- what is left of a line's call when out of memory
+pub calls-err : {E : Type 0} (told : Bool) (given : Given) (h : List Event) (act : PlayAct)
+    (m m' : Moment) (h' : List Event) (hand hand' : Hand) (r : Result (Option Notice) E) → IsErr r
+    → ((jobs : List PlainJob) → Breaks told given h jobs act m m' h')
+    → Calls told given h act m m' h' hand hand' r
+calls-err told given h act m m' h' hand hand' (Ok notice) is broken = absurd (true≢false (sym is))
+calls-err told given h act m m' h' hand hand' (Err e) is broken = broken
+
+-- what a line's call comes to where it was refused
+pub calls-refused : {E : Type 0} (told : Bool) (given : Given) (h : List Event) (act : PlayAct)
+    (m m' : Moment) (h' : List Event) (hand hand' : Hand) (fault : EngineFault)
+    (r : Result (Option Notice) E)
+    → ((notice : Option Notice) → (fault ≡ NoMemory → ⊥) → notice ≡ Some (Refused fault)
+    → (jobs : List PlainJob) → HasInHand given h jobs hand
+    → Makes told given h jobs act m m' h' hand' notice)
+    → (fault ≡ NoMemory → (jobs : List PlainJob) → Breaks told given h jobs act m m' h')
+    → MatchResult r (λ notice. (fault ≡ NoMemory → ⊥) × (notice ≡ Some (Refused fault)))
+    (λ e. fault ≡ NoMemory)
+    → Calls told given h act m m' h' hand hand' r
+calls-refused told given h act m m' h' hand hand' fault (Ok notice) made broken is =
+    made notice is.0 is.1
+calls-refused told given h act m m' h' hand hand' fault (Err e) made broken is = broken is
+
+-- ---- the calls
+
+module _ (given : Given) (h h' : List Event) (told : Bool) (m m' : Moment) where
+  -- a fetch or a commit, unless it was refused
+  fetches-unless : {A : Type 0} (x : Option EngineFault) (step : Option EngineFault → Step A) (p : ℕ)
+      (a : Asked) (r : Result A EngineFault)
+      → ((fault : EngineFault) → x ≡ Some fault → m' ≡ m) → (r ≡ Err NoMemory → ⊥)
+      → (a ≡ Err client.NoMemory → (step None).answer ≡ Err NoMemory)
+      → IsFetched told m.store m.faults m'.faults p a
+      → (told ≡ true → m'.store ≡ m.store) → m.faults ≤ m'.faults → Does r (step x) h h'
+      → Unless x (Fetches told p m (record { asked = a; after = m' })) m m'
+  fetches-unless (Some fault) step p a r same other forgot fetched keeps later does =
+      same fault refl
+  fetches-unless None step p a r same other forgot fetched keeps later does = record {
+    fetched = fetched;
+    keeps = keeps;
+    later = later;
+    answered = λ is. other ((does-is r (step None) h h' other does).0 ∙ forgot is);
+  }
+
+  stores-unless : {A : Type 0} (x : Option EngineFault) (step : Option EngineFault → Step A) (p : ℕ)
+      (c : StoredCommit) (a : Asked) (r : Result A EngineFault)
+      → ((fault : EngineFault) → x ≡ Some fault → m' ≡ m) → (r ≡ Err NoMemory → ⊥)
+      → (a ≡ Err client.NoMemory → (step None).answer ≡ Err NoMemory)
+      → IsStored told m.store m'.store m.faults m'.faults p c (done_by a) → m.faults ≤ m'.faults
+      → Does r (step x) h h'
+      → Unless x (Stores told p c m (record { asked = a; after = m' })) m m'
+  stores-unless (Some fault) step p c a r same other forgot stored later does = same fault refl
+  stores-unless None step p c a r same other forgot stored later does = record {
+    stored = stored;
+    later = later;
+    answered = λ is. other ((does-is r (step None) h h' other does).0 ∙ forgot is);
+  }
+
+  module _ (jobs : List PlainJob) (hand : Hand) (has : HasInHand given h jobs hand) where
+    module _ (p : ℕ) (r : Result (Unit {0}) EngineFault) (notice : Option Notice)
+        (other : r ≡ Err NoMemory → ⊥) (is : notice ≡ call_notice r)
+        (same : (fault : EngineFault) → assign_refusal given h p ≡ Some fault → m' ≡ m)
+        (keeps : told ≡ true → m'.store ≡ m.store) (later : m.faults ≤ m'.faults) where
+      pub assigned : (o : Asked) × IsFetched told m.store m.faults m'.faults p o
+          × Does r (assign_step given h p o) h h'
+          → Makes told given h jobs (Assign p) m m' h' hand notice
+      assigned (o, fetched, does) =
+          let done = does-is r (assign_step given h p o) h h' other does in
+          record {
+            comes = record {
+              asked = o;
+              asks = fetches-unless (assign_refusal given h p) (assign_after given h p o) p o r
+                  same other (λ forgot. ap (λ (x : Asked). (assign_after given h p x None).answer)
+                  forgot) fetched keeps later does;
+              events = done.1;
+            };
+            notice_is = is ∙ ap (λ (x : Result (Unit {0}) EngineFault). call_notice x) done.0;
+            in_hand = has-after given _ h' jobs hand done.1 has.each
+                (assign-expects given h jobs (expects-of given h jobs hand has) p o);
+          }
+
+    module _ (p : ℕ) (r : Result Committed EngineFault) (notice : Option Notice)
+        (other : r ≡ Err NoMemory → ⊥) (is : notice ≡ call_notice r)
+        (same : (fault : EngineFault) → commit_refusal given h p ≡ Some fault → m' ≡ m)
+        (later : m.faults ≤ m'.faults) where
+      committed-by : (a : Asked) → IsStored told m.store m'.store m.faults m'.faults p
+          (commit_of given h p).commit (done_by a) → Does r (commit_step given h p (done_by a)) h h'
+          → Makes told given h jobs (Commit p) m m' h' hand notice
+      committed-by a stored does =
+          let made = does-is r (commit_step given h p (done_by a)) h h' other does in
+          record {
+            comes = record {
+              asked = a;
+              asks = stores-unless (commit_refusal given h p) (commit_after given h p (done_by a))
+                  p (commit_of given h p).commit a r same other
+                  (λ forgot. ap (λ (x : Asked). (commit_after given h p (done_by x) None).answer)
+                  forgot) stored later does;
+              events = made.1;
+            };
+            notice_is = is ∙ ap (λ (x : Result Committed EngineFault). call_notice x) made.0;
+            in_hand = has-after given _ h' jobs hand made.1 has.each
+                (commit-expects given h jobs (expects-of given h jobs hand has) p (done_by a));
+          }
+
+      pub committed : (o : Result (Unit {0}) ClientFault)
+          × IsStored told m.store m'.store m.faults m'.faults p (commit_of given h p).commit o
+          × Does r (commit_step given h p o) h h'
+          → Makes told given h jobs (Commit p) m m' h' hand notice
+      committed (Ok done, stored, does) = committed-by (Ok no_commit) stored does
+      committed (Err fault, stored, does) = committed-by (Err fault) stored does
+
+    module _ (p : ℕ) (r : Result (Option ClientFault) EngineFault) (notice : Option Notice)
+        (other : r ≡ Err NoMemory → ⊥) (is : notice ≡ call_notice r)
+        (same : (fault : EngineFault) → revoke_refusal given h p ≡ Some fault → m' ≡ m)
+        (later : m.faults ≤ m'.faults) where
+      revoked-by : (a : Asked) → IsStored told m.store m'.store m.faults m'.faults p
+          (commit_of given h p).commit (done_by a) → Does r (revoke_step given h p (done_by a)) h h'
+          → Makes told given h jobs (Revoke p) m m' h' hand notice
+      revoked-by a stored does =
+          let made = does-is r (revoke_step given h p (done_by a)) h h' other does in
+          record {
+            comes = record {
+              asked = a;
+              asks = stores-unless (revoke_refusal given h p) (revoke_after given h p (done_by a))
+                  p (commit_of given h p).commit a r same other
+                  (λ forgot. ap (λ (x : Asked). (revoke_after given h p (done_by x) None).answer)
+                  forgot) stored later does;
+              events = made.1;
+            };
+            notice_is = is
+                ∙ ap (λ (x : Result (Option ClientFault) EngineFault). call_notice x) made.0;
+            in_hand = has-after given _ h' jobs hand made.1 has.each
+                (revoke-expects given h jobs (expects-of given h jobs hand has) p (done_by a));
+          }
+
+      pub revoked : (o : Result (Unit {0}) ClientFault)
+          × IsStored told m.store m'.store m.faults m'.faults p (commit_of given h p).commit o
+          × Does r (revoke_step given h p o) h h'
+          → Makes told given h jobs (Revoke p) m m' h' hand notice
+      revoked (Ok done, stored, does) = revoked-by (Ok no_commit) stored does
+      revoked (Err fault, stored, does) = revoked-by (Err fault) stored does
+
+    -- the calls that ask nothing
+    module _ (same : m' ≡ m) where
+      pub lost : (p : ℕ) (r : Result (Unit {0}) EngineFault) (notice : Option Notice)
+          → (r ≡ Err NoMemory → ⊥) → notice ≡ call_notice r → Does r (lose_step given h p) h h'
+          → Makes told given h jobs (Lose p) m m' h' hand notice
+      lost p r notice other is does =
+          let done = does-is r (lose_step given h p) h h' other does in
+          record {
+            comes = record { asked = Err client.NoMemory; asks = same; events = done.1 };
+            notice_is = is ∙ ap (λ (x : Result (Unit {0}) EngineFault). call_notice x) done.0;
+            in_hand = has-after given _ h' jobs hand done.1 has.each
+                (lose-expects given h jobs (expects-of given h jobs hand has) p);
+          }
+
+      pub crashed : (r : Result (Unit {0}) EngineFault) (notice : Option Notice)
+          → (r ≡ Err NoMemory → ⊥) → notice ≡ call_notice r → Does r (crash_step h) h h'
+          → Makes told given h jobs Crash m m' h' hand notice
+      crashed r notice other is does =
+          let done = does-is r (crash_step h) h h' other does in
+          record {
+            comes = record { asked = Err client.NoMemory; asks = same; events = done.1 };
+            notice_is = is ∙ ap (λ (x : Result (Unit {0}) EngineFault). call_notice x) done.0;
+            in_hand = has-after given _ h' jobs hand done.1 has.each
+                (crash-expects given h jobs (expects-of given h jobs hand has));
+          }
+
+      pub ticked : (n : ℕ) (r : Result Bool EngineFault) (notice : Option Notice)
+          → (r ≡ Err NoMemory → ⊥) → notice ≡ tick_notice r → Does r (tick_step h n) h h'
+          → Makes told given h jobs (Tick n) m m' h' hand notice
+      ticked n r notice other is does =
+          let done = does-is r (tick_step h n) h h' other does in
+          record {
+            comes = record { asked = Err client.NoMemory; asks = same; events = done.1 };
+            notice_is = is ∙ ap (λ (x : Result Bool EngineFault). tick_notice x) done.0;
+            in_hand = has-after given _ h' jobs hand done.1 has.each
+                (tick-expects given h jobs (expects-of given h jobs hand has) n);
+          }
+
+      pub polled : (p max : ℕ) (r : Result ℕ EngineFault) (notice : Option Notice)
+          → (r ≡ Err NoMemory → ⊥) → notice ≡ poll_notice r
+          → Does r (poll_step given h p max) h h'
+          → Makes told given h jobs (Poll p max) m m' h' hand notice
+      polled p max r notice other is does =
+          let done = does-is r (poll_step given h p max) h h' other does in
+          record {
+            comes = record { asked = Err client.NoMemory; asks = same; events = done.1 };
+            notice_is = is ∙ ap poll_notice done.0;
+            in_hand = has-after given _ h' jobs hand done.1 has.each
+                (poll-expects given h jobs (expects-of given h jobs hand has) p max);
+          }
+
+      pub took : (hand' : Hand) (worker : ℕ) (r : Result (Option PlainJob) EngineFault)
+          (notice : Option Notice) → (r ≡ Err NoMemory → ⊥) → notice ≡ take_notice r
+          → AreIn hand' (hand_after r jobs) → Does r (take_step given h worker) h h'
+          → Makes told given h jobs (Take worker) m m' h' hand' notice
+      took hand' worker r notice other is are does =
+          let done = does-is r (take_step given h worker) h h' other does in
+          record {
+            comes = record { asked = Err client.NoMemory; asks = same; events = done.1 };
+            notice_is = is ∙ ap take_notice done.0;
+            in_hand = has-after given _ h' _ hand' done.1
+                (subst
+                (λ (x : Result (Option PlainJob) EngineFault). AreIn hand' (hand_after x jobs))
+                done.0 are)
+                (take-expects given h jobs (expects-of given h jobs hand has) worker);
+          }
+
+      -- the job in hand with the ticket is settled
+      pub ended : (hand' : Hand) (t : ℕ) (job : PlainJob) (notice : Option Notice)
+          → Some job ≡ job_with t jobs → AreIn hand' (without t jobs)
+          → (IsExpected given h job
+          → (h' ≡ (end_job given h (without t jobs) job).events ++ h)
+          × (notice ≡ (end_job given h (without t jobs) job).notice))
+          → Makes told given h jobs (End t) m m' h' hand' notice
+      ended hand' t job notice found are ends =
+          let own = job_with-is (IsExpected given h) t jobs job (sym found) has.expected in
+          let is = ends own.0 in
+          let expects =
+          end-expects given h jobs (expects-of given h jobs hand has) t job (sym found) in
+          record {
+            comes = record {
+              asked = Err client.NoMemory;
+              asks = same;
+              events = subst
+                  (λ (x : Option PlainJob). h' ≡ (end_step given h jobs t x).events ++ h)
+                  found is.0;
+            };
+            notice_is = subst
+                (λ (x : Option PlainJob). notice ≡ (end_step given h jobs t x).notice) found is.1;
+            in_hand = subst (λ (x : Option PlainJob).
+                HasInHand given h' (end_step given h jobs t x).hand hand') found
+                (has-after given _ h' _ hand' is.0 are expects);
+          }
+
+      -- no job in hand has the ticket
+      pub not-in-hand : (hand' : Hand) (t : ℕ) → None ≡ job_with t jobs
+          → AreIn hand' (without t jobs) → h' ≡ h
+          → Makes told given h jobs (End t) m m' h' hand' (Some Stranger)
+      not-in-hand hand' t none are stays = record {
+        comes = record {
+          asked = Err client.NoMemory;
+          asks = same;
+          events = subst
+              (λ (x : Option PlainJob). h' ≡ (end_step given h jobs t x).events ++ h) none stays;
+        };
+        notice_is = subst (λ (x : Option PlainJob).
+            Some Stranger ≡ (end_step given h jobs t x).notice) none refl;
+        in_hand = subst (λ (x : Option PlainJob).
+            HasInHand given h' (end_step given h jobs t x).hand hand') none
+            (has-after given h h' jobs hand' stays (λ u. are u ∙ job_with-but t u jobs none)
+            (expects-of given h jobs hand has));
+      }
+
+  -- ---- out of memory
+
+  pub assign-broke : (p : ℕ) (fault : EngineFault) → fault ≡ NoMemory
+      → (told ≡ true → m'.store ≡ m.store) → m.faults ≤ m'.faults
+      → (o : Asked) × IsFetched told m.store m.faults m'.faults p o
+      × Does (Err fault) (assign_step given h p o) h h'
+      → (jobs : List PlainJob) → Breaks told given h jobs (Assign p) m m' h'
+  assign-broke p fault none keeps later (o, fetched, does) jobs = inl (
+    broke (assign_step given h p o) fault h h' none does,
+    record { keeps = keeps; later = later },
+  )
+
+  pub store-broke : {A : Type 0} (act : PlayAct) (step : Result (Unit {0}) ClientFault → Step A)
+      (p : ℕ) (c : StoredCommit) (fault : EngineFault) → fault ≡ NoMemory
+      → (told ≡ true → KeepsStore {A = A} (Err fault) m.store m'.store) → m.faults ≤ m'.faults
+      → (o : Result (Unit {0}) ClientFault)
+      × IsStored told m.store m'.store m.faults m'.faults p c o × Does (Err fault) (step o) h h'
+      → (jobs : List PlainJob) → Breaks told given h jobs act m m' h'
+  store-broke {A} act step p c fault none keeps later (o, stored, does) jobs = inl (
+    broke (step o) fault h h' none does,
+    record {
+      keeps = λ is. forgot-keeps A fault m.store m'.store none (keeps is);
+      later = later;
+    },
+  )
+
+  pub call-broke : {A : Type 0} (act : PlayAct) (step : Step A) (fault : EngineFault)
+      → fault ≡ NoMemory → m' ≡ m → Does (Err fault) step h h'
+      → (jobs : List PlainJob) → Breaks told given h jobs act m m' h'
+  call-broke act step fault none same does jobs =
+      inl (broke step fault h h' none does, aborted-same told m m' same)
+
+  -- a take whose job found no place in hand
+  pub take-comes : (worker : ℕ) (r : Result (Option PlainJob) EngineFault)
+      → (r ≡ Err NoMemory → ⊥) → m' ≡ m → Does r (take_step given h worker) h h'
+      → (jobs : List PlainJob) → Breaks told given h jobs (Take worker) m m' h'
+  take-comes worker r other same does jobs = inr (record {
+    asked = Err client.NoMemory;
+    asks = same;
+    events = (does-is r (take_step given h worker) h h' other does).1;
+  })
+
+-- a line's call that settled a job, or found no memory for its outcome
+pub calls-settled : {E : Type 0} (told : Bool) (given : Given) (h : List Event) (act : PlayAct)
+    (m m' : Moment) (h' : List Event) (hand hand' : Hand) (r : Result (Option Notice) E)
+    (P : Option Notice → Type 0)
+    → ((notice : Option Notice) → P notice → (jobs : List PlainJob) → HasInHand given h jobs hand
+    → Makes told given h jobs act m m' h' hand' notice)
+    → m' ≡ m → IfOk r P → OnErr r (h' ≡ h)
+    → Calls told given h act m m' h' hand hand' r
+calls-settled told given h act m m' h' hand hand' (Ok notice) P made same is stays =
+    made notice is
+calls-settled told given h act m m' h' hand hand' (Err e) P made same is stays =
+    λ jobs. inl (stays, aborted-same told m m' same)
+
+-- a job that the engine was given the result of
+pub settled-so : (given : Given) (h h' : List Event) (done : Finished) (job : PlainJob)
+    (answer : Settled) → finished_job done ≡ job → done.outcome ≡ due_outcome job
+    → (has_ended h ≡ true → (answer ≡ settled.Closed done) × (h' ≡ h))
+    → (has_ended h ≡ false → IsExpected given h (finished_job done)
+    → Settles answer (settle_step given h (finished_job done) done.outcome) h h')
+    → (others : List PlainJob) → IsExpected given h job
+    → (h' ≡ (end_job given h others job).events ++ h)
+    × (settled_notice answer ≡ (end_job given h others job).notice)
+settled-so given h h' done job answer is outcome closed settles others expected =
+    elim (cases_Bool (has_ended h)) [
+      | inl ended ↦ let shut = closed ended in
+          rw ended (shut.1, ap settled_notice shut.0)
+      | inr runs ↦ let does = settles runs (subst (IsExpected given h) (sym is) expected) in
+          rw runs (
+            does.1 ∙ ap (λ (j : PlainJob). (settle_step given h j done.outcome).events ++ h) is
+                ∙ ap (λ (o : Outcome). (settle_step given h job o).events ++ h) outcome,
+            ap settled_notice does.0 ∙ no-notice (finished_job done) done.outcome,
+          )
+    ]
+  where
+    current : (j : PlainJob) (o : Outcome)
+        → settled_notice (settle_current given h j o).answer ≡ None
+    current j (Good answer) = refl
+    current j (Bad code) = refl
+
+    no-notice : (j : PlainJob) (o : Outcome)
+        → settled_notice (settle_step given h j o).answer ≡ None
+    no-notice j o = elim (cases_Bool (is_held h j.part && (j.epoch == epoch_of h j.part))) [
+      | inl held ↦ rw held (current j o)
+      | inr past ↦ rw past refl
+    ]
+
+-- ---- a line that is not built
+
+pub none-made : (told : Bool) (given : Given) (h : List Event) (jobs : List PlainJob) (hand : Hand)
+    (act : PlayAct) (m : Moment) → HasInHand given h jobs hand
+    → ((p : ℕ) → act ≡ Assign p → ⊥) → ((p : ℕ) → act ≡ Commit p → ⊥)
+    → ((p max : ℕ) → act ≡ Poll p max → ⊥) → ((w : ℕ) → act ≡ Take w → ⊥)
+    → ((t : ℕ) → act ≡ End t → ⊥) → ((n : ℕ) → act ≡ Tick n → ⊥)
+    → ((p : ℕ) → act ≡ Revoke p → ⊥)
+    → ((p : ℕ) → act ≡ Lose p → ⊥) → (act ≡ Crash → ⊥)
+    → Makes told given h jobs act m m h hand None
+none-made told given h jobs hand (Assign p) m has assign commit poll take end tick revoke lose crash =
+    absurd (assign p refl)
+none-made told given h jobs hand (Commit p) m has assign commit poll take end tick revoke lose crash =
+    absurd (commit p refl)
+none-made told given h jobs hand (Poll p max) m has assign commit poll take end tick revoke lose crash =
+    absurd (poll p max refl)
+none-made told given h jobs hand (Take w) m has assign commit poll take end tick revoke lose crash =
+    absurd (take w refl)
+none-made told given h jobs hand (End t) m has assign commit poll take end tick revoke lose crash =
+    absurd (end t refl)
+none-made told given h jobs hand (Tick n) m has assign commit poll take end tick revoke lose crash =
+    absurd (tick n refl)
+none-made told given h jobs hand (Revoke p) m has assign commit poll take end tick revoke lose crash =
+    absurd (revoke p refl)
+none-made told given h jobs hand (Lose p) m has assign commit poll take end tick revoke lose crash =
+    absurd (lose p refl)
+none-made told given h jobs hand Crash m has assign commit poll take end tick revoke lose crash =
+    absurd (crash refl)
+none-made told given h jobs hand act m has assign commit poll take end tick revoke lose crash = record {
+  comes = record { asked = Err client.NoMemory; asks = refl; events = refl };
+  notice_is = refl;
+  in_hand = has;
+}

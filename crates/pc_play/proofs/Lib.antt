@@ -1,0 +1,4 @@
+mod HandLemmas
+mod CallLemmas
+pub mod NoLine
+mod PlayLemmas
