@@ -1,5 +1,5 @@
 -- A record that was polled and is incomplete, as that of a job which is out and current.
-use Rattle.std.proofs.Common.{◌≡◌, ℕ, ◌<◌, Bool, true, false, not, map, ◌&&◌, ◌==◌, List, [], ◌∷◌, length, Option, Some, None, refl, ap, sym, subst, ◌∙◌, inl, inr, eq-eqb, get_or, slice_get}
+use Rattle.std.proofs.Common.{cond, ◌≡◌, ℕ, ◌<◌, Bool, true, false, not, map, ◌&&◌, ◌==◌, List, [], ◌∷◌, length, Option, Some, None, refl, ap, sym, subst, ◌∙◌, inl, inr, eq-eqb, get_or, slice_get}
 use Rattle.std.specs.Prelude.{filter, find, is_some}
 use Rattle.std.specs.List.{list_any}
 use Rattle.std.specs.Option.{option_flatten, option_map, unwrap_or}
@@ -9,7 +9,7 @@ use Rattle.pc_model.specs.declared.event.Event.{Event}
 use Rattle.pc_model.specs.Record.{Record}
 use Rattle.pc_model.specs.Marks.{incomplete_offsets}
 use Rattle.pc_model.specs.Given.{Given, record_at, records_of}
-use Rattle.pc_model.specs.Jobs.{Job, open_jobs}
+use Rattle.pc_model.specs.Jobs.{Job, is_settled, job_of, open_jobs}
 use Rattle.pc_model.specs.Epochs.{epoch_of, is_current, is_held}
 use Rattle.pc_model.specs.Known.{is_complete, known_records, marks_of, polled_records}
 use Rattle.pc_model.specs.Next.{is_first as is_first_record}
@@ -32,17 +32,23 @@ use Rattle.pc_state.specs.declared.part.PartState.{PartState}
 use Rattle.pc_state.specs.declared.state.State.{State}
 use Rattle.pc_state.specs.OpenJobs.{kept_job, open_job}
 use Rattle.pc_state.specs.State.{Knows, KnowsHeld, KnowsPart, PartKeeps, entries_of, is_kept_back}
+use Rattle.pc_state.proofs.SettleLemmas.{find-open_jobs}
 use Rattle.pc_state.proofs.StateLemmas.{entries-free, entries-held}
 
 -- the job of a ticket, which is out and current
 pub record IsAtWork (given : Given) (h : List Event) (t p o : ℕ) : Type 0 where
   pub job : Job
+  pub is : job_of h t ≡ Some job
   pub out : In job (open_jobs h)
   pub ticket : job.ticket ≡ t
   pub part : job.part ≡ p
   pub offset : job.offset ≡ o
   pub epoch : job.epoch ≡ epoch_of h p
   pub held : is_held h p ≡ true
+
+unsettled : (o : Option Job) (settled : Bool) (j : Job) → cond settled None o ≡ Some j → o ≡ Some j
+unsettled o true j is = cc
+unsettled o false j is = is
 
 pub at-work : (given : Given) (h : List Event) (t p o : ℕ) (job : OpenJob)
     → option_map kept_job (open_job h t) ≡ Some job → job.part ≡ p → job.offset ≡ o
@@ -57,6 +63,7 @@ at-work given h t p o job kept part offset epoch held =
           let at = In-find (λ (j : Job). j.ticket == t) some.0 (open_jobs h) some.1 in
           record {
             job = some.0;
+            is = unsettled (job_of h t) (is_settled h t) some.0 (sym (find-open_jobs h t) ∙ some.1);
             out = at.0;
             ticket = eqb-true some.0.ticket t at.1;
             part = ap (λ (k : OpenJob). k.part) is ∙ part;

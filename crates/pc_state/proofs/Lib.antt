@@ -1,5 +1,6 @@
 pub mod StateLemmas
 mod LedgerLemmas
+mod PhaseLemmas
 mod AddLemmas
 pub mod RetryLemmas
 pub mod PolledLemmas

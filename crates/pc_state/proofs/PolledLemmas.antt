@@ -1,7 +1,6 @@
 -- What is kept of a history after a poll.
-use Rattle.std.proofs.Common.{◌≡◌, ℕ, suc, ◌+◌, ◌-◌, ◌<◌, ◌≤◌, Bool, true, false, not, ◌&&◌, ◌==◌, cond, List, [], ◌∷◌, ◌++◌, map, take, drop, length, set, Option, Some, None, refl, sym, ap, subst, ◌∙◌, arith, inl, inr, eq-eqb, get_or, length-set}
-use Rattle.std.specs.Prelude.{◌^◌, filter, nat_le, nat_lt, option_map, slice_get}
-use Rattle.std.specs.Option.{option_map_or}
+use Rattle.std.proofs.Common.{◌≡◌, ℕ, ◌+◌, ◌<◌, ◌≤◌, Bool, true, false, not, ◌&&◌, ◌==◌, cond, List, [], ◌∷◌, ◌++◌, map, take, drop, length, set, Some, refl, sym, ap, subst, ◌∙◌, arith, inl, inr, eq-eqb, get_or, length-set}
+use Rattle.std.specs.Prelude.{◌^◌, filter, nat_le, nat_lt}
 use Rattle.std.specs.List.{All, list_any}
 use Rattle.std.proofs.lemmas.Bool.{cases_Bool, eqb-true, le-leb, lt-ltb}
 use Rattle.std.proofs.lemmas.List.{append-nil, length-append, length-map, map-append}
@@ -409,10 +408,11 @@ module _ (given : Given) (h : List Event) (old : State) (p last : ℕ)
         ++ new_entries (filter (λ r. is_open_in part.window.window r.offset) records)
         → ChangesOnly p mid new.shards → new.retries ≡ old.retries → new.jobs ≡ old.jobs
         → new.clock ≡ old.clock → new.dispatched ≡ old.dispatched
-        → new.last ≡ old.last → IsPolled (map (λ r. r.offset) records) part polled
+        → new.last ≡ old.last → new.ledger ≡ old.ledger
+        → IsPolled (map (λ r. r.offset) records) part polled
         → Knows given (Poll p count last ∷ h) new
     knows-taken mid new epoch count polled nothing many epoch_is setup logs items added others retries
-        jobs now dispatched last_same is = subst (λ (n : ℕ). Knows given (Poll p n last ∷ h) new) (sym many)
+        jobs now dispatched last_same ledger is = subst (λ (n : ℕ). Knows given (Poll p n last ∷ h) new) (sym many)
         (knows-polled new epoch polled epoch_is setup logs items
         (added ∙ ap (λ (es : List Entry). es
         ++ new_entries (filter (λ r. is_open_in part.window.window r.offset) records)) (nothing.each p))
@@ -420,4 +420,4 @@ module _ (given : Given) (h : List Event) (old : State) (p last : ℕ)
           order = others.order ∙ nothing.order;
           others = λ q apart. others.others q apart ∙ nothing.each q;
         })
-        retries jobs now dispatched last_same is)
+        retries jobs now dispatched last_same ledger is)

@@ -1,7 +1,7 @@
 -- The part's last commit has this size.
 use Rattle.std.proofs.Common.{refl, set, subst, sym, ap, arith}
 use Rattle.pc_state.specs.declared.part.PartState.{PartState}
-use Rattle.pc_state.specs.State.{PartKeeps, with_size}
+use Rattle.pc_state.specs.State.{PartKeeps}
 use Rattle.pc_state.proofs.LedgerLemmas.{ledger-below}
 use Rattle.pc_state.proofs.PartEvents.{held-has_log, knows-committed, known-below, known-part, log-below}
 use Rattle.pc_state.proofs.state.State.committed.Goals as goal

@@ -74,6 +74,7 @@ returns-clause-dispatched g c = λ given h knows next may. knows-dispatch given 
       clock = c.args.self.now.clock;
       dispatched = c.args.self.now.dispatched + 1;
       last = Some c.args.part;
+      ledger = c.args.self.now.ledger;
     })
     c.args.worker c.args.part c.args.offset c.index.result.now (plain c.in-Some.entry) knows next may
     (record {

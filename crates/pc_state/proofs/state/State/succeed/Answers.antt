@@ -1,7 +1,8 @@
 -- The job is at work on a record that was polled and is incomplete.
-use Rattle.std.proofs.Common.{◌≡◌, ◌<◌, ℕ, length, vec_len, Some, refl, arith}
+use Rattle.std.proofs.Common.{◌≡◌, ◌+◌, ◌≤◌, ◌<◌, ℕ, length, vec_len, Some, refl, arith}
 use Rattle.std.specs.Vec.{with_item}
 use Rattle.pc_model.specs.declared.event.Event.TheVariants.{Success}
+use Rattle.pc_model.specs.Jobs.{open_jobs}
 use Rattle.pc_state.specs.declared.part.HeldPart.{HeldPart}
 use Rattle.pc_state.specs.declared.part.PartState.{PartState}
 use Rattle.pc_state.proofs.AtWork.{at-work, held-known, held-some, open-at, polled-below, state-first, window-incomplete}
@@ -16,6 +17,23 @@ done-requires c =
     let at = open-at given h c.args.ticket c.args.part c.args.offset knows.legal work in
     state-first given h c.args.self.now c.args.part c.args.offset knows held at
 
+few-events : (n m : ℕ) → n + m ≤ 4000000 → n < 9223372036854775808
+few-events n m limit = omega (arith, limit)
+
+pub succeed-requires : goal.succeed-requires
+succeed-requires c =
+    let (given, h, job, knows, kept, part, offset, epoch, held) = c.requires in
+    let work = at-work given h c.args.ticket c.args.part c.args.offset job kept part offset epoch
+    held in
+    let at = open-at given h c.args.ticket c.args.part c.args.offset knows.legal work in (
+      given,
+      h,
+      knows.ledger,
+      polled-below given h c.args.part at.entry at.polled,
+      held,
+      few-events (length h) (length (open_jobs h)) knows.limit,
+    )
+
 within : (n m l k : ℕ) → n < m → k ≡ m → l ≡ k → n < l
 within n m l k less count len = omega (arith, less, count, len)
 
@@ -29,8 +47,8 @@ index_mut-requires c =
     (length c.args.self.now.parts.items) (polled-below given h c.args.part at.entry at.polled)
     knows.count c.args.self.now.parts.ok.0
 
-pub succeed-requires : goal.succeed-requires
-succeed-requires c =
+pub succeed-requires-in-Some : goal.succeed-requires-in-Some
+succeed-requires-in-Some c =
     let (given, h, job, knows, kept, part, offset, epoch, held) = c.requires in
     let work = at-work given h c.args.ticket c.args.part c.args.offset job kept part offset epoch
     held in
@@ -44,7 +62,7 @@ succeed-requires c =
 pub returns-in-Some : goal.returns-in-Some
 returns-in-Some c = λ given h job answer knows kept part offset epoch held may.
     let next : HeldPart = record {
-      window = c.succeed.new.self;
+      window = c.succeed-in-Some.new.self;
       rest = c.in-Some.held.rest;
       size = c.in-Some.held.size;
     } in
@@ -79,9 +97,9 @@ returns-in-Some c = λ given h job answer knows kept part offset epoch held may.
       dispatched = refl;
       last = refl;
     })
-    c.index_mut.ensures.value c.in-Some.is refl refl c.succeed.ensures refl refl
+    c.index_mut.ensures.value c.in-Some.is refl refl c.succeed-in-Some.ensures refl refl
     (c.remove.ensures h (Success c.args.ticket answer) knows.jobs)
-    (c.succeed.ensures given h c.args.ticket answer work.job knows.ledger JOB_OF work.part work.epoch
+    (c.succeed.ensures given h c.args.ticket answer work.job knows.ledger work.is work.part work.epoch
     (polled-below given h c.args.part at.entry at.polled) held)
 
 pub returns-in_default : goal.returns-in_default

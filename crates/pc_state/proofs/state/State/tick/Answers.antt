@@ -7,7 +7,7 @@ use Rattle.pc_state.proofs.state.State.tick.Goals as goal
 
 pub loop-part-init : goal.loop-part-init
 loop-part-init c = λ given h knows may. ticks-start given h c.args.self.now knows c.args.now _ refl
-    refl refl refl refl refl refl refl refl
+    refl refl refl refl refl refl refl refl refl
 
 pub free-requires : goal.free-requires
 free-requires c =
