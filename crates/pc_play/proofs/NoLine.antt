@@ -1,5 +1,5 @@
 -- A play of which no line was played.
-use Rattle.std.proofs.Common.{◌≡◌, inl, ℕ, Bool, true, false, List, [], Option, refl, ap, sym, subst, arith}
+use Rattle.std.proofs.Common.{◌≡◌, ◌≤◌, inl, ℕ, Bool, true, false, List, [], Option, refl, ap, sym, subst, arith}
 use Rattle.pc_laws.proofs.Lists.{true-not-false}
 use Rattle.pc_laws.specs.Lists.{In}
 use Rattle.pc_model.specs.Broker.{Broker}

@@ -6,8 +6,8 @@
 
 mod calls;
 mod hand;
-mod play;
+mod lines;
 mod remark;
 
-pub use play::{Played, play};
+pub use lines::{Played, play};
 pub use remark::{Notice, Remark};

@@ -8,7 +8,7 @@ use Rattle.pc_play.specs.Play.{IsPlayed, moment}
 use Rattle.pc_play.specs.Kept.{IsKept}
 use Rattle.pc_play.proofs.NoLine.{kept-at-start}
 use Rattle.pc_play.proofs.PlayLemmas.{played-err, stops-at-once}
-use Rattle.pc_play.proofs.play.play.Goals as goal
+use Rattle.pc_play.proofs.lines.play.Goals as goal
 
 pub returns-in-Ok-clause-kept : goal.returns-in-Ok-clause-kept
 returns-in-Ok-clause-kept g c =

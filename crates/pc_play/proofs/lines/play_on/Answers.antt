@@ -3,7 +3,7 @@ use Rattle.std.proofs.Common.{ap}
 use Rattle.pc_model.specs.History.{History}
 use Rattle.pc_play.specs.Play.{moment}
 use Rattle.pc_play.proofs.PlayLemmas.{kept-from, lead-from-start, left-err, left-ok, stops-from-start}
-use Rattle.pc_play.proofs.play.play_on.Goals as goal
+use Rattle.pc_play.proofs.lines.play_on.Goals as goal
 
 pub returns-in-Ok-clause-kept : goal.returns-in-Ok-clause-kept
 returns-in-Ok-clause-kept g c = kept-from c.args.engine.given c.play_lines-played.new.engine.given

@@ -7,7 +7,7 @@ use Rattle.pc_play.specs.Hand.{HasInHand}
 use Rattle.pc_play.specs.Play.{Breaks, LeadsTo, moment}
 use Rattle.pc_play.proofs.PlayLemmas.{lead-none, lead-next, lead-stops, on-err, playable-at, stores_only-next}
 use Rattle.pc_engine.proofs.EngineLemmas.{stores_only-same}
-use Rattle.pc_play.proofs.play.play_lines.Goals as goal
+use Rattle.pc_play.proofs.lines.play_lines.Goals as goal
 
 pub loop-line-init : goal.loop-line-init
 loop-line-init g c = record {

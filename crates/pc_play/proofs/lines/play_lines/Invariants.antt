@@ -5,7 +5,7 @@ use Rattle.pc_task.specs.Jobs.{PlainJob}
 use Rattle.pc_engine.specs.Effect.{StoresOnly}
 use Rattle.pc_play.specs.Hand.{HasInHand}
 use Rattle.pc_play.specs.Play.{LeadTo, moment}
-use Rattle.pc_play.proofs.play.play_lines.Given as goal
+use Rattle.pc_play.proofs.lines.play_lines.Given as goal
 
 abbrev pub invariant-loop-line : goal.invariant-loop-line
 invariant-loop-line g l = record {
