@@ -70,7 +70,7 @@ module _ (state : State) (h : List Event) (told : Bool) (outcomes : Outcomes) (k
           stored = λ is. In-entry _ stored
               (rw (gave is) (keeps.stored is p (log-below given.logs p may.known)));
         },
-        keeps.runs,
+        may.runs,
         keeps.knows.legal,
       );
       limit = let fits = room-limit h 1 may.room in omega (arith, fits);
@@ -97,8 +97,6 @@ module _ (state : State) (h : List Event) (told : Bool) (outcomes : Outcomes) (k
           (rw event-is (record {
             knows = knows may-come;
             stored = λ is q below. stored-assign is q below;
-            runs = keeps.runs;
-            flows = keeps.flows;
             room = omega (arith, count, enough, less);
           }))
 

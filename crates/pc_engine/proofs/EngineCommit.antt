@@ -124,7 +124,7 @@ module _ (state : State) (h : List Event) (told : Bool) (outcomes : Outcomes) (k
 
         known_c : Knows given (stored_event ∷ h) new
         known_c = knows (record {
-          legal = (lawful, keeps.runs, keeps.knows.legal);
+          legal = (lawful, may.runs, keeps.knows.legal);
           limit = omega (arith, fits);
         })
 
@@ -136,8 +136,6 @@ module _ (state : State) (h : List Event) (told : Bool) (outcomes : Outcomes) (k
             (sym committed-given) (rw after (record {
               knows = known_c;
               stored = λ is q below. stored_c is q below;
-              runs = keeps.runs;
-              flows = keeps.flows;
               room = omega (arith, less);
             }))
 
@@ -174,7 +172,7 @@ module _ (state : State) (h : List Event) (told : Bool) (outcomes : Outcomes) (k
 
         known_f : Knows given (failed_event ∷ h) new
         known_f = knows (record {
-          legal = (lawful, keeps.runs, keeps.knows.legal);
+          legal = (lawful, may.runs, keeps.knows.legal);
           limit = omega (arith, fits);
         })
 
@@ -186,8 +184,6 @@ module _ (state : State) (h : List Event) (told : Bool) (outcomes : Outcomes) (k
             (rw after (record {
               knows = known_f;
               stored = λ is q below. stored_f is q below;
-              runs = keeps.runs;
-              flows = keeps.flows;
               room = omega (arith, less);
             }))
 

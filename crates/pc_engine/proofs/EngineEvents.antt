@@ -29,25 +29,10 @@ given_by-event setup logs h v told outcomes kept quiet = given_by-same setup log
 pub IsEngine-event : (given : Given) (kept : ℕ → Commit) (state new : State) (room room' : ℕ)
     (h : List Event) (v : Event) → IsEngine given kept state room h → Knows given (v ∷ h) new
     → ((p : ℕ) → may_store given (v ∷ h) p ≡ may_store given h p)
-    → has_ended (v ∷ h) ≡ has_ended h → is_draining (v ∷ h) ≡ is_draining h
     → length (open_jobs (v ∷ h)) ≤ room' → IsEngine given kept new room' (v ∷ h)
-IsEngine-event given kept state new room room' h v keeps knows same no_end no_drain enough = record {
+IsEngine-event given kept state new room room' h v keeps knows same enough = record {
   knows = knows;
   stored = λ told p below. subst (λ (cs : List Commit). In (kept p) cs) (sym (same p)) (keeps.stored told p below);
-  runs = no_end ∙ keeps.runs;
-  flows = no_drain ∙ keeps.flows;
-  room = enough;
-}
-
--- the same state with at least the room that is wanted
-IsEngine-same : (given : Given) (kept : ℕ → Commit) (state new : State) (room room' : ℕ)
-    (h : List Event) → IsEngine given kept state room h → Knows given h new
-    → length (open_jobs h) ≤ room' → IsEngine given kept new room' h
-IsEngine-same given kept state new room room' h keeps knows enough = record {
-  knows = knows;
-  stored = keeps.stored;
-  runs = keeps.runs;
-  flows = keeps.flows;
   room = enough;
 }
 
@@ -76,7 +61,5 @@ module _ (setup : Setup) (logs : List (Option (List Record))) (told : Bool) (out
   IsEngine-start room = rw start-given (record {
     knows = known;
     stored = λ told_is p below. inl (start-kept setup logs p told outcomes kept told_is below);
-    runs = refl;
-    flows = refl;
     room = omega arith;
   })

@@ -23,7 +23,7 @@ use Rattle.pc_laws.proofs.PositionLaw.{held_apart}
 use Rattle.std.proofs.lemmas.Slice.Eq.{bytes_eq-Decides}
 use Rattle.pc_task.specs.Jobs.{Outcomes}
 use Rattle.pc_engine.specs.declared.fault.EngineFault.{EngineFault}
-use Rattle.pc_engine.specs.declared.fault.EngineFault.TheVariants.{NoMemory, Client, BadMap, UnknownPart, AlreadyHeld, NotHeld, JournalFull}
+use Rattle.pc_engine.specs.declared.fault.EngineFault.TheVariants.{Closed, Draining, NoMemory, Client, BadMap, UnknownPart, AlreadyHeld, NotHeld, JournalFull}
 use Rattle.pc_model.specs.declared.choices.BadMapRule.{BadMapRule}
 use Rattle.pc_model.specs.declared.map_fault.MapFault.{MapFault}
 use Rattle.pc_offset_client.specs.declared.fault.ClientFault.{ClientFault}
@@ -199,6 +199,22 @@ may_commit given h p none = elim (cases_Bool (has_ended h)) [
 ]
 
 -- ---- what a refusal of a part with or without a log is
+
+-- after an end all is refused
+pub assign-closed : (r : Result (Unit {0}) EngineFault) (f : EngineFault) (given : Given) (h : List Event) (p : ℕ)
+    → r ≡ Err f → f ≡ Closed → has_ended h ≡ true → r ≡ refused_by (assign_refusal given h p)
+assign-closed r f given h p was is ended = rw ended (was ∙ ap (λ (x : EngineFault). Err x) is)
+
+pub commit-closed : (r : Result (Unit {0}) EngineFault) (f : EngineFault) (given : Given) (h : List Event) (p : ℕ)
+    → r ≡ Err f → f ≡ Closed → has_ended h ≡ true → r ≡ refused_by (commit_refusal given h p)
+commit-closed r f given h p was is ended = rw ended (was ∙ ap (λ (x : EngineFault). Err x) is)
+
+-- while it drains none is assigned
+pub assign-draining : (r : Result (Unit {0}) EngineFault) (f : EngineFault) (given : Given) (h : List Event) (p : ℕ)
+    → has_ended h ≡ false → has_log given p ≡ true → r ≡ Err f → f ≡ Draining
+    → is_draining h ≡ true → r ≡ refused_by (assign_refusal given h p)
+assign-draining r f given h p runs known was is drains = rw (runs, known, drains)
+    (was ∙ ap (λ (x : EngineFault). Err x) is)
 
 -- without a log the part is not known
 pub assign-unknown : (r : Result (Unit {0}) EngineFault) (f : EngineFault) (given : Given) (h : List Event) (p : ℕ)

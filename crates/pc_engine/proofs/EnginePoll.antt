@@ -162,6 +162,7 @@ first-taken given h p max first some is may =
 pub record MayPoll (given : Given) (h : List Event) (p : ℕ) : Type 0 where
   pub held : is_held h p ≡ true
   pub flows : is_draining h ≡ false
+  pub runs : has_ended h ≡ false
 
 pub may-poll : (given : Given) (h : List Event) (p : ℕ) → poll_refusal given h p ≡ None
     → MayPoll given h p
@@ -173,7 +174,7 @@ may-poll given h p none = elim (cases_Bool (has_ended h)) [
       | inr free ↦ let out = rw (runs, known, free) at none in cc out
       | inl held ↦ elim (cases_Bool (is_draining h)) [
         | inl draining ↦ let out = rw (runs, known, held, draining) at none in cc out
-        | inr flows ↦ record { held = held; flows = flows }
+        | inr flows ↦ record { held = held; flows = flows; runs = runs }
       ]
     ]
   ]
@@ -332,7 +333,7 @@ module _ (state : State) (h : List Event) (told : Bool) (outcomes : Outcomes) (k
         last_is = last-at;
         pressed = λ blocked. pressed-at blocked;
       },
-      keeps.runs,
+      (may-poll given h p none).runs,
       keeps.knows.legal,
     );
     limit = let fits = room-limit h 1 room_left in omega (arith, fits);
@@ -375,7 +376,7 @@ module _ (state : State) (h : List Event) (told : Bool) (outcomes : Outcomes) (k
 
     pub polled-keeps : IsEngine (given_to new h' told outcomes kept) kept new room' h'
     polled-keeps = keeps-event state new h h' told outcomes kept room room' (Poll p m last) keeps (λ q. refl) known
-        (λ q. refl) refl refl (omega (arith, count, enough, less)) event-is
+        (λ q. refl) (omega (arith, count, enough, less)) event-is
 
     pub polled-does : (◌≡◌ {A = Result ℕ EngineFault} (Ok m) (poll_step given h p max).answer)
         × (h' ≡ (poll_step given h p max).events ++ h)

@@ -9,7 +9,7 @@ use Rattle.pc_model.specs.Jobs.{has_ended, open_jobs}
 use Rattle.pc_model.specs.Epochs.{epoch_of, is_held}
 use Rattle.pc_task.specs.Jobs.{Outcomes}
 use Rattle.pc_engine.specs.declared.fault.EngineFault.{EngineFault}
-use Rattle.pc_engine.specs.declared.fault.EngineFault.TheVariants.{JournalFull, NotHeld, UnknownPart}
+use Rattle.pc_engine.specs.declared.fault.EngineFault.TheVariants.{Closed, JournalFull, NotHeld, UnknownPart}
 use Rattle.pc_state.specs.declared.state.State.{State}
 use Rattle.pc_engine.specs.Effect.{Does, held_refusal, is_full, lose_after, lose_step, refused_by}
 use Rattle.pc_engine.specs.Engine.{IsEngine}
@@ -44,10 +44,16 @@ module _ (given : Given) (h : List Event) (p more : ℕ) (runs : has_ended h ≡
       → r ≡ refused_by (held_refusal given h p more)
   release-room r known held was = rw (runs, known, ← held) (was ∙ room-is (is_full h more))
 
+-- after an end no part is given back
+release-closed : (given : Given) (h : List Event) (p more : ℕ) (r : Result (Unit {0}) EngineFault)
+    (f : EngineFault) → r ≡ Err f → f ≡ Closed → has_ended h ≡ true
+    → r ≡ refused_by (held_refusal given h p more)
+release-closed given h p more r f was is ended = rw ended (was ∙ ap (λ (x : EngineFault). Err x) is)
+
 -- a part that may be given back is held, and there is a place for the events
 pub may-release : (given : Given) (h : List Event) (p more : ℕ) (u : Unit {0})
     → ◌≡◌ {A = Result (Unit {0}) EngineFault} (Ok u) (refused_by (held_refusal given h p more))
-    → (is_held h p ≡ true) × (is_full h more ≡ false)
+    → (is_held h p ≡ true) × (is_full h more ≡ false) × (has_ended h ≡ false)
 may-release given h p more u ok = elim (cases_Bool (has_ended h)) [
   | inl ended ↦ let out = rw ended at ok in cc out
   | inr runs ↦ elim (cases_Bool (has_log given p)) [
@@ -56,7 +62,7 @@ may-release given h p more u ok = elim (cases_Bool (has_ended h)) [
       | inr free ↦ let out = rw (runs, known, free) at ok in cc out
       | inl held ↦ elim (cases_Bool (is_full h more)) [
         | inl full ↦ let out = rw (runs, known, held, full) at ok in cc out
-        | inr room ↦ (held, room)
+        | inr room ↦ (held, room, runs)
       ]
     ]
   ]
@@ -69,10 +75,10 @@ module _ (state : State) (h : List Event) (told : Bool) (outcomes : Outcomes) (k
   abbrev given : Given
   given = given_to state h told outcomes kept
 
-  may-lose : (p : ℕ) → is_held h p ≡ true → is_full h 1 ≡ false
+  may-lose : (p : ℕ) → is_held h p ≡ true → is_full h 1 ≡ false → has_ended h ≡ false
       → MayCome given (Lost p (epoch_of h p)) h
-  may-lose p held room_left = record {
-    legal = (record { held = held; epoch_is = refl }, keeps.runs, keeps.knows.legal);
+  may-lose p held room_left runs = record {
+    legal = (record { held = held; epoch_is = refl }, runs, keeps.knows.legal);
     limit = let limit = room-limit h 1 room_left in omega (arith, limit);
   }
 
@@ -85,7 +91,7 @@ module _ (state : State) (h : List Event) (told : Bool) (outcomes : Outcomes) (k
       (same : h1 ≡ h) (after : h' ≡ Lost p epoch ∷ h1) where
     knows-loss : Knows given (Lost p (epoch_of h p) ∷ h) new
     knows-loss = let may = may-release given h p 1 u ok in
-        knows may.0 (may-lose p may.0 may.1)
+        knows may.0 (may-lose p may.0 may.1 may.2)
 
     pub lost-events : h' ≡ Lost p (epoch_of h p) ∷ h
     lost-events = after ∙ ap (λ (k : List Event). Lost p epoch ∷ k) same
@@ -99,7 +105,7 @@ module _ (state : State) (h : List Event) (told : Bool) (outcomes : Outcomes) (k
         → room' + 1 ≡ room1 → IsEngine (given_to new h' told outcomes kept) kept new room' h'
     lost-keeps room1 room' n count enough less =
         keeps-event state new h h' told outcomes kept room room' (Lost p (epoch_of h p)) keeps (λ q. refl)
-        knows-loss (λ q. refl) refl refl (omega (arith, count, enough, less)) lost-events
+        knows-loss (λ q. refl) (omega (arith, count, enough, less)) lost-events
 
     pub lost-does : Does (Ok tt) (lose_step given h p) h h'
     lost-does = lost-after (held_refusal given h p 1) (refused-none u (held_refusal given h p 1) ok)
@@ -108,20 +114,20 @@ module _ (state : State) (h : List Event) (told : Bool) (outcomes : Outcomes) (k
         lost-after None none = (refl, lost-events)
         lost-after (Some f) none = cc
 
-  may-crash : is_full h 1 ≡ false → MayCome given Crash h
-  may-crash room_left = record {
-    legal = (tt, keeps.runs, keeps.knows.legal);
+  may-crash : is_full h 1 ≡ false → has_ended h ≡ false → MayCome given Crash h
+  may-crash room_left runs = record {
+    legal = (tt, runs, keeps.knows.legal);
     limit = let limit = room-limit h 1 room_left in omega (arith, limit);
   }
 
   pub crashed-keeps : (new : State) (h1 h' : List Event) (room1 room' n : ℕ) (u : Unit {0})
       → ◌≡◌ {A = Result (Unit {0}) EngineFault} (Ok u)
       (cond (is_full h 1) (Err JournalFull) (Ok tt))
-      → (MayCome given Crash h → Knows given (Crash ∷ h) new)
+      → has_ended h ≡ false → (MayCome given Crash h → Knows given (Crash ∷ h) new)
       → h1 ≡ h → h' ≡ Crash ∷ h1 → n ≡ length (open_jobs h) → n + 1 ≤ room1
       → room' + 1 ≡ room1 → IsEngine (given_to new h' told outcomes kept) kept new room' h'
-  crashed-keeps new h1 h' room1 room' n u room_left knows same after count enough less =
+  crashed-keeps new h1 h' room1 room' n u room_left runs knows same after count enough less =
       keeps-event state new h h' told outcomes kept room room' Crash keeps (λ q. refl)
-      (knows (may-crash (not-full u (is_full h 1) room_left))) (λ q. refl) refl (sym keeps.flows)
+      (knows (may-crash (not-full u (is_full h 1) room_left) runs)) (λ q. refl)
       (omega (arith, count, enough, less))
       (after ∙ ap (λ (k : List Event). Crash ∷ k) same)

@@ -23,6 +23,7 @@ use Rattle.pc_state.specs.declared.state.State.{State}
 use Rattle.pc_engine.specs.Effect.{Does, IsStored, Step, commit_after, commit_refusal, commit_step, commit_with, failed_of, failure_of, held_refusal, is_full, refused_by, refuses, revoke_after, revoke_step, revoke_with}
 use Rattle.pc_engine.specs.Engine.{IsEngine}
 use Rattle.pc_state.specs.State.{Knows, MayCome}
+use Rattle.pc_engine.proofs.EngineLemmas.{may_commit}
 use Rattle.pc_engine.proofs.EngineEvents.{room-limit}
 use Rattle.pc_engine.proofs.EngineStep.{given_to, given-event, keeps-event}
 
@@ -119,6 +120,7 @@ record Adds (p : ℕ) (h h' : List Event) : Type 0 where
   epoch : epoch_of h' p ≡ epoch_of h p
   count : length h' ≡ length h + 1
   jobs : open_jobs h' ≡ open_jobs h
+  ended : has_ended h' ≡ has_ended h
 
 adds : (p : ℕ) (c : SizedCommit) (outcome : Result (Unit {0}) ClientFault) (h : List Event)
     → (outcome ≡ Err client.NoMemory → ⊥) → Adds p h ((commit_with p c outcome).events ++ h)
@@ -128,6 +130,7 @@ adds p c (Ok done) h lasts = record {
   epoch = refl;
   count = omega arith;
   jobs = refl;
+  ended = refl;
 }
 adds p c (Err client.NoMemory) h lasts = absurd (lasts refl)
 adds p c (Err failed) h lasts = record {
@@ -136,6 +139,7 @@ adds p c (Err failed) h lasts = record {
   epoch = refl;
   count = omega arith;
   jobs = refl;
+  ended = refl;
 }
 
 -- ---- a revocation that is refused
@@ -241,7 +245,7 @@ module _ (given : Given) (h h2 : List Event) (p : ℕ) (told : Bool) (b b' : Bro
     may-revoke = record {
       legal = (
         record { after_commit = added.last; epoch_is = refl },
-        keeps.runs,
+        added.ended ∙ (may_commit given h p refused).runs,
         keeps.knows.legal,
       );
       limit = let limit = room-limit h 2 room_left in
@@ -262,5 +266,4 @@ module _ (given : Given) (h h2 : List Event) (p : ℕ) (told : Bool) (b b' : Bro
     revoked-keeps room1 room3 m count enough less less2 =
         let jobs : length (open_jobs h2) ≡ length (open_jobs h) = ap length added.jobs in
         keeps-event state new h2 h3 told2 outcomes kept room room3 (Revoke p (epoch_of h2 p)) keeps
-        (λ q. refl) (knows may-revoke) (λ q. refl) refl refl
-        (omega (arith, count, enough, less, less2, jobs)) revoked-events
+        (λ q. refl) (knows may-revoke) (λ q. refl) (omega (arith, count, enough, less, less2, jobs)) revoked-events

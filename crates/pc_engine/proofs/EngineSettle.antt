@@ -13,7 +13,7 @@ use Rattle.pc_model.specs.declared.setup.SetupField.TheVariants.{Delays}
 use Rattle.pc_model.specs.Ranges.{delays_fault, number_fault, range_fault, settings_fault}
 use Rattle.pc_model.specs.declared.outcome.Outcome.TheVariants.{Bad, Good}
 use Rattle.pc_model.specs.Given.{Given, records_of}
-use Rattle.pc_model.specs.Jobs.{Job, is_outstanding, is_settled, job_of, jobs_of, open_jobs}
+use Rattle.pc_model.specs.Jobs.{Job, has_ended, is_outstanding, is_settled, job_of, jobs_of, open_jobs}
 use Rattle.pc_model.specs.Lawful.{IsLegal}
 use Rattle.pc_model.specs.Epochs.{epoch_of, is_current_ticket, is_held}
 use Rattle.pc_model.specs.Outcomes.{ticket_attempt, ticket_outcome}
@@ -132,7 +132,8 @@ due-same mine theirs job outcome same due = due
 
 module _ (state new : State) (h h' : List Event) (told : Bool) (outcomes : Outcomes) (kept : ℕ → Commit) (room room' : ℕ)
     (keeps : IsEngine (given_to state h told outcomes kept) kept state room h) (job : PlainJob)
-    (expected : IsExpected (given_to state h told outcomes kept) h job) (less : room' + 1 ≡ room) where
+    (expected : IsExpected (given_to state h told outcomes kept) h job) (less : room' + 1 ≡ room)
+    (runs : has_ended h ≡ false) where
   abbrev given : Given
   given = given_to state h told outcomes kept
 
@@ -166,7 +167,7 @@ module _ (state new : State) (h h' : List Event) (told : Bool) (outcomes : Outco
           outcome = due-of
               ∙ ap (λ (x : Outcome). Some x) (sym due ∙ good);
         },
-        keeps.runs,
+        runs,
         keeps.knows.legal,
       );
       limit = omega (arith, fewer, keeps.knows.limit);
@@ -183,8 +184,7 @@ module _ (state new : State) (h h' : List Event) (told : Bool) (outcomes : Outco
 
     pub settled-keeps : IsEngine (given_to new h' told outcomes kept) kept new room' h'
     settled-keeps = keeps-event state new h h' told outcomes kept room room' (Success job.ticket answer)
-        keeps (λ q. refl) knows-settled (λ q. refl) refl refl
-        (omega (arith, fewer, less, keeps.room)) after
+        keeps (λ q. refl) knows-settled (λ q. refl) (omega (arith, fewer, less, keeps.room)) after
 
   -- a failure of a job that is current
   module _ (current : (is_held h job.part && (job.epoch == epoch_of h job.part)) ≡ true)
@@ -215,7 +215,7 @@ module _ (state new : State) (h h' : List Event) (told : Bool) (outcomes : Outco
               ∙ ap (λ (n : ℕ). ready_after given.setup.settings.delays n (now_of h))
               (sym (ticket-attempt given h job expected));
         },
-        keeps.runs,
+        runs,
         keeps.knows.legal,
       );
       limit = omega (arith, fewer-failed, keeps.knows.limit);
@@ -232,8 +232,7 @@ module _ (state new : State) (h h' : List Event) (told : Bool) (outcomes : Outco
 
     pub failed-keeps : IsEngine (given_to new h' told outcomes kept) kept new room' h'
     failed-keeps = keeps-event state new h h' told outcomes kept room room' (Failure job.ticket code ready)
-        keeps (λ q. refl) knows-failed (λ q. refl) refl refl
-        (omega (arith, fewer-failed, less, keeps.room)) after
+        keeps (λ q. refl) knows-failed (λ q. refl) (omega (arith, fewer-failed, less, keeps.room)) after
 
     pub failed-settles : {T : Type 0} {function : Ghosts T}
         → Settles {T = T} {task = function} (Failed ready) (settle_step given h job outcome) h h'
@@ -257,7 +256,7 @@ module _ (state new : State) (h h' : List Event) (told : Bool) (outcomes : Outco
           outstanding = outstanding;
           past = ticket-current given h job expected ∙ past;
         },
-        keeps.runs,
+        runs,
         keeps.knows.legal,
       );
       limit = omega (arith, fewer-stale, keeps.knows.limit);
@@ -272,8 +271,7 @@ module _ (state new : State) (h h' : List Event) (told : Bool) (outcomes : Outco
 
     pub stale-keeps : IsEngine (given_to new h' told outcomes kept) kept new room' h'
     stale-keeps = keeps-event state new h h' told outcomes kept room room' (Stale job.ticket) keeps
-        (λ q. refl) knows-stale (λ q. refl) refl refl
-        (omega (arith, fewer-stale, less, keeps.room)) after
+        (λ q. refl) knows-stale (λ q. refl) (omega (arith, fewer-stale, less, keeps.room)) after
 
 -- what the state asks for a success
 pub asks-success : (given : Given) (h : List Event) (state : State) (job : PlainJob)

@@ -43,13 +43,11 @@ pub keeps-event : (state new : State) (h h' : List Event) (told : Bool) (outcome
     → ((q : ℕ) → assigned_by v q ≡ None) → Knows (given_to state h told outcomes kept) (v ∷ h) new
     → ((p : ℕ) → may_store (given_to state h told outcomes kept) (v ∷ h) p
     ≡ may_store (given_to state h told outcomes kept) h p)
-    → has_ended (v ∷ h) ≡ has_ended h → is_draining (v ∷ h) ≡ is_draining h
     → length (open_jobs (v ∷ h)) ≤ room' → h' ≡ v ∷ h
     → IsEngine (given_to new h' told outcomes kept) kept new room' h'
-keeps-event state new h h' told outcomes kept room room' v keeps quiet knows same no_end no_drain enough
-    after =
+keeps-event state new h h' told outcomes kept room room' v keeps quiet knows same enough after =
     subst (λ (k : List Event). IsEngine (given_to new k told outcomes kept) kept new room' k) (sym after)
     (subst (λ (given : Given). IsEngine given kept new room' (v ∷ h))
     (sym (given-event state new h (v ∷ h) told outcomes kept v quiet knows refl))
     (IsEngine-event (given_to state h told outcomes kept) kept state new room room' h v keeps knows same
-    no_end no_drain enough))
+    enough))

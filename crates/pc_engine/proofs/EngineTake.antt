@@ -5,7 +5,7 @@ use Rattle.pc_model.specs.declared.commit.Commit.{Commit}
 use Rattle.pc_model.specs.declared.event.Event.{Event}
 use Rattle.pc_model.specs.declared.event.Event.TheVariants.{Dispatch}
 use Rattle.pc_model.specs.Given.{Given}
-use Rattle.pc_model.specs.Jobs.{dispatch_count, open_jobs}
+use Rattle.pc_model.specs.Jobs.{has_ended, dispatch_count, open_jobs}
 use Rattle.pc_model.specs.Epochs.{epoch_of}
 use Rattle.pc_model.specs.Next.{next_record}
 use Rattle.pc_model.specs.Retry.{failures_of}
@@ -29,7 +29,8 @@ not-full u true is = cc
 not-full u false is = refl
 
 module _ (state : State) (h : List Event) (told : Bool) (outcomes : Outcomes) (kept : ℕ → Commit) (room : ℕ)
-    (keeps : IsEngine (given_to state h told outcomes kept) kept state room h) where
+    (keeps : IsEngine (given_to state h told outcomes kept) kept state room h)
+    (runs : has_ended h ≡ false) where
   abbrev given : Given
   given = given_to state h told outcomes kept
 
@@ -57,7 +58,7 @@ module _ (state : State) (h : List Event) (told : Bool) (outcomes : Outcomes) (k
         epoch_is = refl;
         attempt_is = refl;
       },
-      keeps.runs,
+      runs,
       keeps.knows.legal,
     );
     limit = let more = one-more worker p o in
@@ -77,7 +78,7 @@ module _ (state : State) (h : List Event) (told : Bool) (outcomes : Outcomes) (k
       count enough less =
       keeps-event state new h h' told outcomes kept room room' (event worker p o) keeps (λ q. refl)
       (knows (may-take worker p o small (sym next) (not-full u (is_full h 2) room_left)))
-      (λ q. refl) refl refl
+      (λ q. refl)
       (let more = one-more worker p o in omega (arith, more, count, enough, less))
       (after
       ∙ ap (λ (k : List Event). Dispatch job.ticket worker p o job.epoch job.attempt ∷ k) same

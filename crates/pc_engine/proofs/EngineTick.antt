@@ -4,7 +4,7 @@ use Rattle.pc_model.specs.declared.commit.Commit.{Commit}
 use Rattle.pc_model.specs.declared.event.Event.{Event}
 use Rattle.pc_model.specs.declared.event.Event.TheVariants.{Tick}
 use Rattle.pc_model.specs.Given.{Given}
-use Rattle.pc_model.specs.Jobs.{open_jobs}
+use Rattle.pc_model.specs.Jobs.{has_ended, open_jobs}
 use Rattle.pc_model.specs.Retry.{now_of}
 use Rattle.pc_state.specs.declared.state.State.{State}
 use Rattle.pc_state.specs.State.{Knows, MayCome}
@@ -19,7 +19,7 @@ use Rattle.pc_engine.proofs.EngineTake.{not-full}
 
 module _ (state : State) (h : List Event) (told : Bool) (outcomes : Outcomes) (kept : ℕ → Commit) (room : ℕ)
     (keeps : IsEngine (given_to state h told outcomes kept) kept state room h) (n : ℕ)
-    (later : state.clock < n) where
+    (later : state.clock < n) (runs : has_ended h ≡ false) where
   abbrev given : Given
   given = given_to state h told outcomes kept
 
@@ -28,7 +28,7 @@ module _ (state : State) (h : List Event) (told : Bool) (outcomes : Outcomes) (k
 
   pub may-tick : is_full h 1 ≡ false → MayCome given (Tick n) h
   may-tick room_left = record {
-    legal = (after-now, keeps.runs, keeps.knows.legal);
+    legal = (after-now, runs, keeps.knows.legal);
     limit = let limit = room-limit h 1 room_left in omega (arith, limit);
   }
 
@@ -47,4 +47,4 @@ module _ (state : State) (h : List Event) (told : Bool) (outcomes : Outcomes) (k
         → room' + 1 ≡ room1 → IsEngine (given_to new h' told outcomes kept) kept new room' h'
     ticked-keeps room1 room' m count enough less =
         keeps-event state new h h' told outcomes kept room room' (Tick n) keeps (λ q. refl) known (λ q. refl)
-        refl refl (omega (arith, count, enough, less)) events
+        (omega (arith, count, enough, less)) events

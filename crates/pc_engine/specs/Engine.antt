@@ -71,16 +71,14 @@ given_by setup logs h told outcomes kept = record {
   outcome = outcomes setup.settings.rules;
 }
 
--- what an engine's type keeps: its state is that of a legal history that has not ended, a told link
--- has one of the commits that may be stored for each part, and the journal has a place for the
--- result of each job that is out
+-- what an engine's type keeps: its state is that of a legal history, a told link has one of the
+-- commits that may be stored for each part, and the journal has a place for the result of each job
+-- that is out
 pub record IsEngine (given : Given) (kept : ℕ → Commit) (state : State) (places : ℕ)
     (h : List Event) : Type 0 where
   pub knows : Knows given h state
   pub stored : given.is_told ≡ true → (p : ℕ) → p < length given.logs
       → In (kept p) (may_store given h p)
-  pub runs : has_ended h ≡ false
-  pub flows : is_draining h ≡ false
   pub room : length (open_jobs h) ≤ places
 
 -- a call leaves what the engine was given, its function, and its link

@@ -34,6 +34,7 @@ impl<'a, L: Link, T: Task> Engine<'a, L, T> {
         ensures memory { 1 ≤ spare self.old.journal → result ≡ Err NoMemory → ⊥ }
         ensures keeps { Keeps T.outcome self.old self.new }
     {
+        self.runs()?;
         if now <= self.state.clock {
             return Ok(false);
         }

@@ -101,7 +101,7 @@ impl<'a, L: Link, T: Task> Engine<'a, L, T> {
     ghost use Rattle.pc_offset_client.specs.declared.fault.ClientFault.TheVariants.{LinkFailed};
     ghost use Rattle.pc_offset_client.specs.Client.{kept_for};
     ghost use Rattle.pc_engine.specs.declared.fault.EngineFault.{EngineFault};
-    ghost use Rattle.pc_engine.specs.declared.fault.EngineFault.TheVariants.{BadMap, Client as Failed, NoMemory, UnknownPart};
+    ghost use Rattle.pc_engine.specs.declared.fault.EngineFault.TheVariants.{BadMap, Client as Failed, Closed, Draining, NoMemory, UnknownPart};
     ghost use Rattle.pc_model.specs.declared.map_fault.MapFault.{MapFault};
     ghost use Rattle.pc_commit.specs.Resume.{map_refusal, resumed_marks};
     ghost use Rattle.pc_partition.specs.Window.{StandsFor};
@@ -118,7 +118,7 @@ impl<'a, L: Link, T: Task> Engine<'a, L, T> {
     ghost use Rattle.pc_model.specs.Jobs.{open_jobs};
     ghost use Rattle.pc_model.specs.Epochs.{epoch_of};
     ghost use Rattle.pc_task.specs.Results.{finished_job};
-    ghost use Rattle.pc_engine.specs.declared.settled.Settled.TheVariants.{Closed, Stranger};
+    ghost use Rattle.pc_engine.specs.declared.settled.Settled.TheVariants.{Closed as Late, Stranger};
     ghost use Rattle.pc_state.specs.Calls.{IsExpected};
     ghost use Rattle.pc_engine.specs.Effect.{Settles, poll_refusal, poll_step, settle_step, spare, take_step, taken};
 
@@ -293,6 +293,7 @@ impl<'a, L: Link, T: Task> Engine<'a, L, T> {
             self.old.journal.events self.new.journal.events }
         ensures keeps { Keeps T.outcome self.old self.new }
     {
+        self.runs()?;
         self.has_room(2)?;
         let Some((part, offset)) = self.state.next() else {
             return Ok(None);
@@ -313,7 +314,7 @@ impl<'a, L: Link, T: Task> Engine<'a, L, T> {
     /// Settles a result: adds Success, Failure or Stale, unless the engine has ended or expects no
     /// such result. Takes no memory.
     pub fn settle(&mut self, done: Finished<'a, T>) -> Settled<'a, T>
-        ensures closed { has_ended self.old.journal.events ≡ true → result ≡ Closed done.entry
+        ensures closed { has_ended self.old.journal.events ≡ true → result ≡ Late done.entry
             × self.new.journal.events ≡ self.old.journal.events }
         ensures stranger { has_ended self.old.journal.events ≡ false
             → (Expects T.outcome T.same self.old done.entry → ⊥)
@@ -325,6 +326,9 @@ impl<'a, L: Link, T: Task> Engine<'a, L, T> {
             self.old.journal.events self.new.journal.events }
         ensures keeps { Keeps T.outcome self.old self.new }
     {
+        if self.state.ledger.ended {
+            return Settled::Closed(done);
+        }
         if !done.task.is_same(self.task) || !self.state.expects(&done) {
             return Settled::Stranger(done);
         }
@@ -342,7 +346,7 @@ impl<'a, L: Link, T: Task> Engine<'a, L, T> {
         ensures { IsTrue result ↔ ((has_ended self.now.journal.events ≡ false)
             × Expects T.outcome T.same self.now done.now) }
     {
-        done.task.is_same(self.task) && self.state.expects(done)
+        !self.state.ledger.ended && done.task.is_same(self.task) && self.state.expects(done)
     }
 
     /// Makes room for `n` events beyond those kept for the jobs that are out. Fails only where there
@@ -383,7 +387,7 @@ impl<'a, L: Link, T: Task> Engine<'a, L, T> {
             Ok(()) => {
                 let position = sized.commit.position;
                 let size = sized.size;
-                self.state.committed(part, size);
+                self.state.committed(part, position, size);
                 self.journal.push(Event::Commit {
                     part,
                     position,
@@ -394,7 +398,7 @@ impl<'a, L: Link, T: Task> Engine<'a, L, T> {
             }
             Err(fault) => {
                 let fault = lasting(fault)?;
-                self.state.committed(part, sized.size);
+                self.state.commit_failed(part, sized.size);
                 self.journal.push(Event::CommitFailed {
                     part,
                     position: sized.commit.position,
@@ -410,6 +414,7 @@ impl<'a, L: Link, T: Task> Engine<'a, L, T> {
     fn conclude(&mut self, done: Finished<'a, T>) -> Settled<'a, T>
         requires expected { IsExpected (given_of T.outcome self.old) self.old.journal.events (finished_job done) }
         requires same { T.outcome done.task.now ≡ T.outcome self.old.task }
+        requires runs { has_ended self.old.journal.events ≡ false }
         requires current { (is_held self.old.journal.events done.part
             && (done.epoch == epoch_of self.old.journal.events done.part)) ≡ true }
         ensures settles { Settles result (settle_step (given_of T.outcome self.old) self.old.journal.events
@@ -482,13 +487,33 @@ impl<'a, L: Link, T: Task> Engine<'a, L, T> {
         )
     }
 
+    // Refuses where the engine has ended.
+    pub(crate) fn runs(&self) -> Result<(), EngineFault>
+        ensures runs { OnOk result (has_ended self.now.journal.events ≡ false) }
+        ensures ended { IfErr result (λ e. e ≡ Closed × has_ended self.now.journal.events ≡ true) }
+    {
+        if self.state.ledger.ended {
+            return Err(EngineFault::Closed);
+        }
+        Ok(())
+    }
+
+    // Refuses where the engine drains.
+    pub(crate) fn flows(&self) -> Result<(), EngineFault>
+        ensures flows { OnOk result (is_draining self.now.journal.events ≡ false) }
+        ensures drains { IfErr result (λ e. e ≡ Draining × is_draining self.now.journal.events ≡ true) }
+    {
+        if self.state.ledger.drains {
+            return Err(EngineFault::Draining);
+        }
+        Ok(())
+    }
+
     // What is known of a part with a log.
     pub(crate) fn part(&self, part: u32) -> Result<&PartState<'a>, EngineFault>
         ensures knows { IfOk result (λ state. has_log (given_of T.outcome self.now) part ≡ true
             × PartKeeps (given_of T.outcome self.now) self.now.journal.events part state.now) }
         ensures unknown { IfErr result (λ e. e ≡ UnknownPart × has_log (given_of T.outcome self.now) part ≡ false) }
-        ensures runs { has_ended self.now.journal.events ≡ false }
-        ensures flows { is_draining self.now.journal.events ≡ false }
     {
         match self.state.part(part) {
             Some(state) => Ok(state),
@@ -500,7 +525,10 @@ impl<'a, L: Link, T: Task> Engine<'a, L, T> {
     fn may_assign(&self, part: u32) -> Result<(), EngineFault>
         ensures { result ≡ refused_by (assign_refusal (given_of T.outcome self.now) self.now.journal.events part) }
     {
-        if self.part(part)?.held.is_some() {
+        self.runs()?;
+        let state = self.part(part)?;
+        self.flows()?;
+        if state.held.is_some() {
             return Err(EngineFault::AlreadyHeld);
         }
         self.has_room(1)
@@ -510,6 +538,7 @@ impl<'a, L: Link, T: Task> Engine<'a, L, T> {
     fn may_commit(&self, part: u32) -> Result<(), EngineFault>
         ensures { result ≡ refused_by (commit_refusal (given_of T.outcome self.now) self.now.journal.events part) }
     {
+        self.runs()?;
         if self.part(part)?.held.is_none() {
             return Err(EngineFault::NotHeld);
         }
@@ -520,10 +549,11 @@ impl<'a, L: Link, T: Task> Engine<'a, L, T> {
     fn may_poll(&self, part: u32) -> Result<(), EngineFault>
         ensures { result ≡ refused_by (poll_refusal (given_of T.outcome self.now) self.now.journal.events part) }
     {
+        self.runs()?;
         if self.part(part)?.held.is_none() {
             return Err(EngineFault::NotHeld);
         }
-        Ok(())
+        self.flows()
     }
 
     // Whether so many more events are within the limit, at most 2.

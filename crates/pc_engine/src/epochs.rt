@@ -68,6 +68,7 @@ impl<'a, L: Link, T: Task> Engine<'a, L, T> {
         ensures memory { 1 ≤ spare self.old.journal → result ≡ Err NoMemory → ⊥ }
         ensures keeps { Keeps T.outcome self.old self.new }
     {
+        self.runs()?;
         self.has_room(1)?;
         self.journal.reserve(self.state.outstanding() + 1)?;
         self.state.crash();
@@ -114,6 +115,7 @@ impl<'a, L: Link, T: Task> Engine<'a, L, T> {
         ensures { result ≡ refused_by
             (held_refusal (given_of T.outcome self.now) self.now.journal.events part events) }
     {
+        self.runs()?;
         if self.part(part)?.held.is_none() {
             return Err(EngineFault::NotHeld);
         }

@@ -11,6 +11,7 @@ invariant_of-self-2 g c =
     (g.T.Task.outcome c.self.inside.task.now) (kept_for (g.L.Link.store c.self.inside.client.link))
     c.self.inside.journal.room c.self.invariant c.crash.new.self c.reserve.new.self.events
     c.push.new.self.events c.reserve.new.self.room c.push.new.self.room c.outstanding.result _
-    (rw (← c.self.view_is) at c.in_ok-has_room.ensures) (c.crash.ensures _ _ knows)
+    (rw (← c.self.view_is) at c.in_ok-has_room.ensures) (rw (← c.self.view_is) at c.in_ok-runs.ensures.runs)
+    (c.crash.ensures _ _ knows)
     c.in_ok-reserve.ensures.events c.push.ensures.events (c.outstanding.ensures _ _ knows)
     c.in_ok-reserve.ensures.room c.push.ensures.room

@@ -11,7 +11,7 @@ invariant_of-self g c = stale-keeps c.self.inside.state c.forget.new.self
     c.self.inside.journal.events c.push.new.self.events (g.L.Link.is_told c.self.inside.client.link)
     (g.T.Task.outcome c.self.inside.task.now) (kept_for (g.L.Link.store c.self.inside.client.link)) c.self.inside.journal.room
     c.push.new.self.room c.self.invariant (finished_job c.args.done)
-    ((c.if-not-expects.ensures _ _ c.self.invariant.knows).0 refl) c.push.ensures.room
+    ((c.if-not-expects.ensures _ _ c.self.invariant.knows).0 refl) c.push.ensures.room (sym c.self.invariant.knows.ledger.ended ∙ c.if-self.false)
     (sym (c.if-not-is_current.ensures _ _ c.self.invariant.knows)) c.forget.ensures
     c.push.ensures.events
 
@@ -21,7 +21,7 @@ returns-then-not-is_current-clause-keeps g c = record {
       c.self.inside.journal.events c.push.new.self.events (g.L.Link.is_told c.self.inside.client.link)
       (g.T.Task.outcome c.self.inside.task.now) (kept_for (g.L.Link.store c.self.inside.client.link)) c.self.inside.journal.room
       c.push.new.self.room c.self.invariant (finished_job c.args.done)
-      ((c.if-not-expects.ensures _ _ c.self.invariant.knows).0 refl) c.push.ensures.room
+      ((c.if-not-expects.ensures _ _ c.self.invariant.knows).0 refl) c.push.ensures.room (sym c.self.invariant.knows.ledger.ended ∙ c.if-self.false)
       (sym (c.if-not-is_current.ensures _ _ c.self.invariant.knows)) c.forget.ensures
       c.push.ensures.events
       ∙ ap (λ v. given_of g.T.Task.outcome v) c.self.view_is;

@@ -49,8 +49,8 @@ committed-requires g c =
           c.self.inside.journal.events c.args.part inner).held,
     )
 
-pub committed-requires-in-Err : goal.committed-requires-in-Err
-committed-requires-in-Err g c =
+pub commit_failed-requires : goal.commit_failed-requires
+commit_failed-requires g c =
     let inner : commit_refusal (given_to c.self.inside.state c.self.inside.journal.events
     (g.L.Link.is_told c.self.inside.client.link) (g.T.Task.outcome c.self.inside.task.now) (kept_for (g.L.Link.store c.self.inside.client.link)))
     c.self.inside.journal.events c.args.part ≡ None = rw (← c.self.view_is) at c.requires.may in (
@@ -81,9 +81,9 @@ invariant_of-self g c =
     (let enough = rw (← c.self.view_is) at c.requires.room in
     let less = c.push.ensures.room in omega (arith, enough, less))
     (λ is. kept_for-accepts _ _ _ _ (c.in-Ok.ensures.gives is))
-    (c.committed.ensures.stored (given_to c.self.inside.state c.self.inside.journal.events
+    (c.committed.ensures (given_to c.self.inside.state c.self.inside.journal.events
     (g.L.Link.is_told c.self.inside.client.link) (g.T.Task.outcome c.self.inside.task.now) (kept_for (g.L.Link.store c.self.inside.client.link)))
-    c.self.inside.journal.events c.in_ok-sized.sized.commit.position c.in_ok-sized.sized.commit.map c.self.invariant.knows)
+    c.self.inside.journal.events c.in_ok-sized.sized.commit.map c.self.invariant.knows)
     c.push.ensures.events
 
 pub invariant_of-self-in-Err : goal.invariant_of-self-in-Err
@@ -98,13 +98,13 @@ invariant_of-self-in-Err g c =
     (g.L.Link.is_told c.self.inside.client.link) (g.T.Task.outcome c.self.inside.task.now) (kept_for (g.L.Link.store c.self.inside.client.link))
     c.self.inside.journal.room c.self.invariant c.args.part inner c.in_ok-sized.sized
     commit_is
-    (kept_for (g.L.Link.store c.commit.new.self.link)) c.committed-in-Err.new.self
+    (kept_for (g.L.Link.store c.commit.new.self.link)) c.commit_failed.new.self
     (g.L.Link.is_told c.commit.new.self.link) c.commit.ensures.told c.push-in-Err.new.self.events
     c.push-in-Err.new.self.room
     (let enough = rw (← c.self.view_is) at c.requires.room in
     let less = c.push-in-Err.ensures.room in omega (arith, enough, less))
     (λ is. may_keep-failed _ _ _ _ c.in-Err.fault (c.in-Err.ensures.gives is))
-    (c.committed-in-Err.ensures.failed (given_to c.self.inside.state c.self.inside.journal.events
+    (c.commit_failed.ensures (given_to c.self.inside.state c.self.inside.journal.events
     (g.L.Link.is_told c.self.inside.client.link) (g.T.Task.outcome c.self.inside.task.now) (kept_for (g.L.Link.store c.self.inside.client.link)))
     c.self.inside.journal.events c.in_ok-sized.sized.commit.position c.in_ok-sized.sized.commit.map c.self.invariant.knows)
     c.push-in-Err.ensures.events
@@ -128,9 +128,9 @@ returns-in-Ok-clause-asks g c =
           (let enough = rw (← c.self.view_is) at c.requires.room in
           let less = c.push.ensures.room in omega (arith, enough, less))
           (λ is. kept_for-accepts _ _ _ _ (c.in-Ok.ensures.gives is))
-          (c.committed.ensures.stored (given_to c.self.inside.state c.self.inside.journal.events
+          (c.committed.ensures (given_to c.self.inside.state c.self.inside.journal.events
           (g.L.Link.is_told c.self.inside.client.link) (g.T.Task.outcome c.self.inside.task.now) (kept_for (g.L.Link.store c.self.inside.client.link)))
-          c.self.inside.journal.events c.in_ok-sized.sized.commit.position c.in_ok-sized.sized.commit.map c.self.invariant.knows)
+          c.self.inside.journal.events c.in_ok-sized.sized.commit.map c.self.invariant.knows)
           c.push.ensures.events
           ∙ ap (λ v. given_of g.T.Task.outcome v) c.self.view_is;
       task = ap (λ v. v.task) c.self.view_is;
@@ -169,13 +169,13 @@ returns-in_ok-fault-in-Err-clause-asks g c =
           (g.L.Link.is_told c.self.inside.client.link) (g.T.Task.outcome c.self.inside.task.now) (kept_for (g.L.Link.store c.self.inside.client.link))
           c.self.inside.journal.room c.self.invariant c.args.part inner c.in_ok-sized.sized
           commit_is
-          (kept_for (g.L.Link.store c.commit.new.self.link)) c.committed-in-Err.new.self
+          (kept_for (g.L.Link.store c.commit.new.self.link)) c.commit_failed.new.self
           (g.L.Link.is_told c.commit.new.self.link) c.commit.ensures.told c.push-in-Err.new.self.events
           c.push-in-Err.new.self.room
           (let enough = rw (← c.self.view_is) at c.requires.room in
           let less = c.push-in-Err.ensures.room in omega (arith, enough, less))
           (λ is. may_keep-failed _ _ _ _ c.in-Err.fault (c.in-Err.ensures.gives is))
-          (c.committed-in-Err.ensures.failed (given_to c.self.inside.state c.self.inside.journal.events
+          (c.commit_failed.ensures (given_to c.self.inside.state c.self.inside.journal.events
           (g.L.Link.is_told c.self.inside.client.link) (g.T.Task.outcome c.self.inside.task.now) (kept_for (g.L.Link.store c.self.inside.client.link)))
           c.self.inside.journal.events c.in_ok-sized.sized.commit.position c.in_ok-sized.sized.commit.map c.self.invariant.knows)
           c.push-in-Err.ensures.events

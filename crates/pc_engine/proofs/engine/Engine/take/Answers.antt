@@ -22,7 +22,7 @@ invariant_of-self-2 g c = let room_left = rw (← c.self.view_is) at c.in_ok-has
     taken-keeps c.self.inside.state c.self.inside.journal.events
     (g.L.Link.is_told c.self.inside.client.link)
     (g.T.Task.outcome c.self.inside.task.now) (kept_for (g.L.Link.store c.self.inside.client.link))
-    c.self.inside.journal.room c.self.invariant c.dispatch.new.self c.reserve.new.self.events
+    c.self.inside.journal.room c.self.invariant (rw (← c.self.view_is) at c.in_ok-runs.ensures.runs) c.dispatch.new.self c.reserve.new.self.events
     c.push.new.self.events c.reserve.new.self.room c.push.new.self.room c.args.worker
     c.in-Some.part c.in-Some.offset c.outstanding.result _ _ c.requires next room_left
     (c.in_ok-job.ensures.job _ _ knows (sym next))

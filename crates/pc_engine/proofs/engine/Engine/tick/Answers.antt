@@ -15,7 +15,7 @@ tick-requires g c = (
   may-tick c.self.inside.state c.self.inside.journal.events
       (g.L.Link.is_told c.self.inside.client.link)
       (g.T.Task.outcome c.self.inside.task.now) (kept_for (g.L.Link.store c.self.inside.client.link))
-      c.self.inside.journal.room c.self.invariant c.args.now c.if-now-self.false
+      c.self.inside.journal.room c.self.invariant c.args.now c.if-now-self.false (rw (← c.self.view_is) at c.in_ok-runs.ensures.runs)
       (not-full _ _ (rw (← c.self.view_is) at c.in_ok-has_room.ensures)),
 )
 
@@ -26,7 +26,7 @@ invariant_of-self-2 g c =
     ticked-keeps c.self.inside.state c.self.inside.journal.events
     (g.L.Link.is_told c.self.inside.client.link)
     (g.T.Task.outcome c.self.inside.task.now) (kept_for (g.L.Link.store c.self.inside.client.link))
-    c.self.inside.journal.room c.self.invariant c.args.now c.if-now-self.false
+    c.self.inside.journal.room c.self.invariant c.args.now c.if-now-self.false (rw (← c.self.view_is) at c.in_ok-runs.ensures.runs)
     c.tick.new.self c.reserve.new.self.events c.push.new.self.events _ ok
     (λ may. c.tick.ensures _ _ knows may)
     c.in_ok-reserve.ensures.events c.push.ensures.events c.reserve.new.self.room
