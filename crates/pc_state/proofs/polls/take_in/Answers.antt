@@ -1,5 +1,5 @@
 -- Each record is above those before it, and when none is left all were taken.
-use Rattle.std.proofs.Common.{◌≡◌, ◌+◌, ◌++◌, ℕ, List, length, map, drop, refl, ap, sym, subst, ◌∙◌, arith}
+use Rattle.std.proofs.Common.{◌+◌, ◌++◌, ℕ, List, length, map, drop, refl, ap, subst, ◌∙◌, arith}
 use Rattle.std.proofs.lemmas.List.{length-map}
 use Rattle.pc_batch.specs.Record.{plain}
 use Rattle.pc_model.specs.Record.{Record}
@@ -41,8 +41,13 @@ returns-clause-taken c =
     let offsets = taking-offsets c.args.held.now.window.window c.args.next c.records.left
     c.records.offsets.items (of_part c.args.shards.now c.args.part) (of_part c.records.shards c.args.part)
     c.records.invariant.taking c.in_default.ensures.steps.0.0 in record {
-      count = omega (arith, c.len.ensures, c.records.offsets.ok.0, ap length offsets,
-          length-map {B = ℕ} c.args.next.left (λ r. r.offset));
+      count = omega (
+        arith,
+        c.len.ensures,
+        c.records.offsets.ok.0,
+        ap length offsets,
+        length-map {B = ℕ} c.args.next.left (λ r. r.offset),
+      );
       last = c.last_of.ensures ∙ last-offsets c.args.next.left _ (c.deref-2.ensures.value ∙ offsets);
     }
 

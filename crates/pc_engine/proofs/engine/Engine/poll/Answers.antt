@@ -19,7 +19,7 @@ poll-requires-clause-held g c =
     (g.L.Link.is_told c.self.inside.client.link) (kept_for (g.L.Link.store c.self.inside.client.link)))
     c.self.inside.journal.events c.args.part inner).held in (
       (given_to c.self.inside.state c.self.inside.journal.events
-    (g.L.Link.is_told c.self.inside.client.link) (kept_for (g.L.Link.store c.self.inside.client.link))),
+          (g.L.Link.is_told c.self.inside.client.link) (kept_for (g.L.Link.store c.self.inside.client.link))),
       c.self.inside.journal.events,
       c.self.invariant.knows,
       held,

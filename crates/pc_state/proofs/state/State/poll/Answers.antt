@@ -3,7 +3,6 @@ use Rattle.std.proofs.Common.{◌≡◌, ◌≤◌, ℕ, true, false, length, Li
 use Rattle.std.specs.Prelude.{is_some, ◌<◌}
 use Rattle.std.specs.List.{All}
 use Rattle.pc_shards.specs.Entries.{Entry}
-use Rattle.pc_model.specs.Record.{Record}
 use Rattle.pc_model.specs.declared.event.Event.TheVariants.{Poll}
 use Rattle.pc_state.specs.declared.part.PartState.{PartState}
 use Rattle.pc_state.specs.State.{MayCome}
