@@ -1,13 +1,11 @@
 -- The first records of those whose offsets rise.
-use Rattle.std.proofs.Common.{◌≡◌, ℕ, zero, suc, ◌-◌, ◌<◌, ◌≤◌, ◌^◌, Bool, true, false, cond, leb, ltb, List, [], ◌∷◌, length, take, refl, sym, ap, ◌∙◌, arith}
+use Rattle.std.proofs.Common.{◌≡◌, ℕ, zero, suc, ◌-◌, ◌<◌, ◌≤◌, ◌^◌, Bool, true, false, cond, leb, ltb, List, [], ◌∷◌, take, refl, sym, ap, ◌∙◌, arith}
 use Rattle.std.specs.Prelude.{filter}
 use Rattle.std.specs.List.{take_while}
 use Rattle.std.proofs.lemmas.Bool.{leb-true, leb-false, ltb-true, le-leb, lt-leb}
-use Rattle.std.proofs.lemmas.List.{take_all}
 use Rattle.std.proofs.lemmas.List.Sums.{take_while-cons}
 use Rattle.pc_model.specs.Record.{Record}
 use Rattle.pc_model.specs.Given.{rises_from}
-use Rattle.pc_cursor.specs.Cursor.{not_below}
 use Rattle.pc_cursor.proofs.BatchFacts.{and-left, and-right, rises-cons, rises-lower}
 use Rattle.pc_broker_log.specs.Logs.{upto, first_upto}
 
