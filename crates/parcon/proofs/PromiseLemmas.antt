@@ -2,6 +2,7 @@
 use Rattle.std.proofs.Common.{◌≡◌, ◌⊎◌, inl, inr, ℕ, List, [], ◌++◌, length, Option, Result, Ok, Err, refl, ap, sym, subst, ◌∙◌, arith}
 use Rattle.std.specs.Prelude.{Bool, true, MatchResult}
 use Rattle.std.proofs.lemmas.List.{append-nil, take_all}
+use Rattle.pc_model.specs.Outcomes.{outcome_of}
 use Rattle.pc_model.specs.Broker.{Broker}
 use Rattle.pc_offset_client.specs.Client.{kept_for}
 use Rattle.pc_engine.specs.Engine.{given_by}
@@ -173,20 +174,20 @@ plays-kept given lines before after status h h' is same ends =
 -- a play that did not begin
 pub plays-none : (setup : Setup) (logs : List (Option (List Record)))
     (lines : Result (List PlayLine) Status) (before after : Outside) (s status : Status)
-    (h : List Event) → IsLegal (given_by setup logs [] before.is_told (kept_for before.store)) []
+    (h : List Event) → IsLegal (given_by setup logs [] before.is_told outcome_of (kept_for before.store)) []
     → link_at after ≡ link_at before → (s ≡ NoMemory) ⊎ (lines ≡ Err s) → h ≡ []
     → IsWritten before.written after.written before.write_faults after.write_faults
     (fault_line s) s status → (s ≡ NoMemory → status ≡ NoMemory)
-    → Plays (given_by setup logs [] before.is_told (kept_for before.store)) lines before after
+    → Plays (given_by setup logs [] before.is_told outcome_of (kept_for before.store)) lines before after
     status h
 plays-none setup logs lines before after s status h legal same is none written memory =
-    plays-kept (given_by setup logs [] before.is_told (kept_for before.store)) lines before after
+    plays-kept (given_by setup logs [] before.is_told outcome_of (kept_for before.store)) lines before after
     status h []
-    (subst (λ (b : Broker). IsKept (given_by setup logs [] before.is_told (kept_for before.store))
+    (subst (λ (b : Broker). IsKept (given_by setup logs [] before.is_told outcome_of (kept_for before.store))
     before.store b []) (sym (ap (λ (m : Moment). m.store) same)) (kept-at-start setup logs
     before.is_told before.store legal))
     none
-    (ends-unplayed (given_by setup logs [] before.is_told (kept_for before.store)) before after
+    (ends-unplayed (given_by setup logs [] before.is_told outcome_of (kept_for before.store)) before after
     lines s status h is none same written memory)
 
 -- a plan that is not carried out: nothing was sent, and nothing was played

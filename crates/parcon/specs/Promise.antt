@@ -1,5 +1,6 @@
 -- The promise of the program: how a play ends, whatever its words, files, link and sink are.
 use Rattle.std.specs.Prelude.{ℕ, ◌≡◌, ◌⊎◌, Bool, true, List, [], take, Option, Result, Ok, Err, IfOk}
+use Rattle.pc_model.specs.Outcomes.{outcome_of}
 use Rattle.pc_model.specs.declared.event.Event.{Event}
 use Rattle.pc_model.specs.declared.outcome.Start.{Start}
 use Rattle.pc_model.specs.declared.setup.Setup.{Setup}
@@ -26,7 +27,7 @@ use Rattle.parcon.specs.Written.{IsWritten}
 
 -- what a play over these logs is given: the setup, and for its start what the link's broker stores
 abbrev pub given_of : Setup → List (Option (List Record)) → Bool → Broker → Given
-given_of setup logs told store = given_by setup logs [] told (kept_for store)
+given_of setup logs told store = given_by setup logs [] told outcome_of (kept_for store)
 
 -- the files at a moment: what they hold, as far as it is told, and how often the reads of each name
 -- have failed

@@ -1,6 +1,7 @@
 //! The call below the top one: a play with any setup over any logs, and what it ends with.
 
 ghost use Rattle.std.specs.Prelude.{◌≡◌, Ok, [], MatchResult};
+ghost use Rattle.pc_model.specs.Outcomes.{outcome_of};
 ghost use Rattle.pc_offset_client.specs.Client.{kept_for};
 ghost use Rattle.pc_engine.specs.Engine.{given_by};
 ghost use Rattle.pc_inputs.specs.declared.status.Status.TheVariants.{NoMemory, Whole};
@@ -41,7 +42,7 @@ pub fn play_setup<L: Link, O: Sink>(
     out: &mut O,
 ) -> Ended<L>
     ensures { Plays
-        (given_by setup.now logs.now [] (L.is_told link) (kept_for (L.store link))) (Ok script.now)
+        (given_by setup.now logs.now [] (L.is_told link) outcome_of (kept_for (L.store link))) (Ok script.now)
         (record {
           is_told = L.is_told link;
           store = L.store link;

@@ -272,22 +272,33 @@ pub record SettledStep (T : Type 0) (task : Ghosts T) : Type 0 where
   pub answer : Settled T task
   pub events : List Event
 
--- a result of a current job, by its outcome
-abbrev pub settle_current : {T : Type 0} {task : Ghosts T} → Given → List Event → PlainJob → Outcome
-    → SettledStep T task
-settle_current given h job (Good answer) =
-    record { answer = Succeeded; events = Success job.ticket answer ∷ [] }
-settle_current given h job (Bad code) =
-    let ready = ready_after given.setup.settings.delays job.attempt (now_of h) in
-    record { answer = Failed ready; events = Failure job.ticket code ready ∷ [] }
+-- what the result of a current job is, by its outcome
+abbrev pub settled_as : {T : Type 0} {task : Ghosts T} → Given → List Event → PlainJob → Outcome
+    → Settled T task
+settled_as given h job (Good answer) = Succeeded
+settled_as given h job (Bad code) =
+    Failed (ready_after given.setup.settings.delays job.attempt (now_of h))
+
+-- and the event that it adds
+abbrev pub settled_event : Given → List Event → PlainJob → Outcome → Event
+settled_event given h job (Good answer) = Success job.ticket answer
+settled_event given h job (Bad code) =
+    Failure job.ticket code (ready_after given.setup.settings.delays job.attempt (now_of h))
+
+-- the event that a result adds which is expected
+abbrev pub settle_event : Given → List Event → PlainJob → Outcome → Event
+settle_event given h job outcome =
+    if is_held h job.part && (job.epoch == epoch_of h job.part)
+    then settled_event given h job outcome else StaleResult job.ticket
 
 -- a result that is expected
 abbrev pub settle_step : {T : Type 0} {task : Ghosts T} → Given → List Event → PlainJob → Outcome
     → SettledStep T task
-settle_step given h job outcome =
-    if is_held h job.part && (job.epoch == epoch_of h job.part)
-    then settle_current given h job outcome
-    else record { answer = Stale; events = StaleResult job.ticket ∷ [] }
+settle_step given h job outcome = record {
+  answer = if is_held h job.part && (job.epoch == epoch_of h job.part)
+      then settled_as given h job outcome else Stale;
+  events = settle_event given h job outcome ∷ [];
+}
 
 -- a result that was settled by the step
 abbrev pub Settles : {T : Type 0} {task : Ghosts T} → Settled T task → SettledStep T task → List Event → List Event → Type 0

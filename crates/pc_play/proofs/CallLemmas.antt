@@ -13,6 +13,8 @@ use Rattle.pc_script.specs.declared.play.PlayAct.{PlayAct}
 use Rattle.pc_script.specs.declared.play.PlayAct.TheVariants.{Assign, Commit, Poll, Take, End, Tick, Revoke, Lose, Crash}
 use Rattle.pc_offset_client.specs.declared.fault.ClientFault.{ClientFault}
 use Rattle.pc_offset_client.specs.declared.fault.ClientFault.TheVariants as client
+use Rattle.pc_model.specs.Outcomes.{outcome_of}
+use Rattle.pc_task.specs.declared.task.Task.{Ghosts}
 use Rattle.pc_task.specs.Jobs.{PlainJob, due_outcome}
 use Rattle.pc_task.specs.Results.{finished_job}
 use Rattle.pc_task.specs.declared.finished.Finished.{Finished}
@@ -386,7 +388,7 @@ calls-settled told given h act m m' h' hand hand' (Err e) P made same is stays =
 
 -- a job that the engine was given the result of
 pub settled-so : (given : Given) (h h' : List Event) (done : Finished) (job : PlainJob)
-    (answer : Settled) → finished_job done ≡ job → done.outcome ≡ due_outcome job
+    (answer : Settled) → finished_job done ≡ job → done.outcome ≡ due_outcome outcome_of job
     → (has_ended h ≡ true → (answer ≡ settled.Closed done) × (h' ≡ h))
     → (has_ended h ≡ false → IsExpected given h (finished_job done)
     → Settles answer (settle_step given h (finished_job done) done.outcome) h h')

@@ -1,5 +1,6 @@
 -- A play of which no line was played.
 use Rattle.std.proofs.Common.{◌≡◌, ◌≤◌, inl, ℕ, Bool, true, false, List, [], Option, refl, ap, sym, subst, arith}
+use Rattle.pc_model.specs.Outcomes.{outcome_of}
 use Rattle.pc_laws.proofs.Lists.{true-not-false}
 use Rattle.pc_laws.specs.Lists.{In}
 use Rattle.pc_model.specs.Broker.{Broker}
@@ -37,18 +38,18 @@ plays-nowhere told given s m = record { entries = []; trace = (refl, refl) }
 
 stored-at-start : (setup : Setup) (logs : List (Option (List Record))) (told : Bool)
     (store : Broker) → told ≡ true → (p : ℕ)
-    → has_log (given_by setup logs [] told (kept_for store)) p ≡ true
-    → In (kept_for store p) (may_store (given_by setup logs [] told (kept_for store)) [] p)
+    → has_log (given_by setup logs [] told outcome_of (kept_for store)) p ≡ true
+    → In (kept_for store p) (may_store (given_by setup logs [] told outcome_of (kept_for store)) [] p)
 stored-at-start setup logs true store is p log =
-    inl (sym (start_of-given_by setup logs p [] (kept_for store) (log-below logs p log)))
+    inl (sym (start_of-given_by setup logs p [] outcome_of (kept_for store) (log-below logs p log)))
 stored-at-start setup logs false store is p log = absurd (false-not-true is)
 
 pub kept-at-start : (setup : Setup) (logs : List (Option (List Record))) (told : Bool)
-    (store : Broker) → IsLegal (given_by setup logs [] told (kept_for store)) []
-    → IsKept (given_by setup logs [] told (kept_for store)) store store []
+    (store : Broker) → IsLegal (given_by setup logs [] told outcome_of (kept_for store)) []
+    → IsKept (given_by setup logs [] told outcome_of (kept_for store)) store store []
 kept-at-start setup logs told store legal = record {
   legal = legal;
   stored = λ t p log. stored-at-start setup logs told store t p log;
-  others = λ t. stores_only-same (has_log (given_by setup logs [] told (kept_for store))) store store
+  others = λ t. stores_only-same (has_log (given_by setup logs [] told outcome_of (kept_for store))) store store
       refl;
 }

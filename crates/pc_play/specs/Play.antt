@@ -7,6 +7,9 @@ use Rattle.pc_model.specs.Given.{Given}
 use Rattle.pc_model.specs.Jobs.{has_ended}
 use Rattle.pc_model.specs.Known.{commit_of}
 use Rattle.pc_model.specs.Broker.{Broker}
+use Rattle.pc_model.specs.Outcomes.{outcome_of}
+use Rattle.pc_task.specs.declared.task.RuleTask.{RuleTask}
+use Rattle.pc_task.specs.declared.task.Task.{Ghosts}
 use Rattle.pc_task.specs.Jobs.{PlainJob, due_outcome}
 use Rattle.pc_script.specs.declared.play.PlayAct.{PlayAct}
 use Rattle.pc_script.specs.declared.play.PlayAct.TheVariants.{Assign, Commit, Poll, Take, End, Tick, Revoke, Lose, Crash}
@@ -17,12 +20,17 @@ use Rattle.pc_engine.specs.declared.fault.EngineFault.{EngineFault}
 use Rattle.pc_engine.specs.declared.fault.EngineFault.TheVariants.{Closed}
 use Rattle.pc_engine.specs.declared.settled.Settled.{Settled}
 use Rattle.pc_engine.specs.declared.settled.Settled.TheVariants as settled
-use Rattle.pc_engine.specs.Effect.{IsFetched, IsStored, assign_refusal, assign_step, commit_refusal, commit_step, crash_step, lose_step, poll_step, revoke_refusal, revoke_step, settle_step, take_step, tick_step}
+use Rattle.pc_engine.specs.Engine.{EngineView, given_of}
+use Rattle.pc_engine.specs.Effect.{IsFetched, IsStored, assign_refusal, assign_step, commit_refusal, commit_step, crash_step, lose_step, poll_step, revoke_refusal, revoke_step, settle_event, take_step, tick_step}
 use Rattle.pc_play.specs.declared.remark.Notice.{Notice}
 use Rattle.pc_play.specs.declared.remark.Notice.TheVariants.{Refused, NoJob, AtEnd, OldTime, Stranger}
 use Rattle.pc_play.specs.declared.remark.Remark.{Remark}
 use Rattle.pc_play.specs.declared.hand.Hand.{Hand}
 use Rattle.pc_play.specs.Hand.{HasInHand, job_with, without}
+
+-- what an engine was given that runs the function of the rules
+abbrev pub given_by_rules : {L : Type 0} → EngineView L RuleTask → Given
+given_by_rules engine = given_of (λ _. outcome_of) engine
 
 -- what the link's client answered when a line's call asked it: the commit that it fetched, or a
 -- fault. Of a commit that was stored it says no more.
@@ -80,7 +88,7 @@ hand_after (Ok (Some job)) hand = job ∷ hand
 hand_after answer hand = hand
 
 -- what is to be remarked of a result that the engine was given
-abbrev pub settled_notice : Settled → Option Notice
+abbrev pub settled_notice : {T : Type 0} {task : Ghosts T} → Settled T task → Option Notice
 settled_notice (settled.Closed done) = Some (Refused Closed)
 settled_notice (settled.Stranger done) = Some Stranger
 settled_notice answer = None
@@ -89,7 +97,7 @@ settled_notice answer = None
 -- engine has ended
 abbrev pub end_job : Given → List Event → List PlainJob → PlainJob → LineStep
 end_job given h others job = record {
-  events = if has_ended h then [] else (settle_step given h job (due_outcome job)).events;
+  events = if has_ended h then [] else settle_event given h job (due_outcome outcome_of job) ∷ [];
   hand = others;
   notice = if has_ended h then Some (Refused Closed) else None;
 }

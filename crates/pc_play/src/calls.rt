@@ -10,7 +10,7 @@ ghost use Rattle.pc_state.specs.Calls.{IsExpected};
 ghost use Rattle.pc_engine.specs.Effect.{StoresOnly};
 ghost use Rattle.pc_play.specs.declared.hand.Hand.{Hand};
 ghost use Rattle.pc_play.specs.declared.remark.Notice.TheVariants.{Refused};
-ghost use Rattle.pc_play.specs.Play.{Calls, end_job, moment, poll_notice, settled_notice};
+ghost use Rattle.pc_play.specs.Play.{given_by_rules, Calls, end_job, moment, poll_notice, settled_notice};
 
 use crate::hand::Hand;
 use crate::remark::Notice;
@@ -29,14 +29,14 @@ pub(crate) fn call<'a, L: Link>(
     act: PlayAct,
 ) -> Result<Option<Notice>, AllocError>
     requires { IsPlayable act }
-    ensures effect { Calls (L.is_told engine.old.link) engine.old.given engine.old.journal.events
+    ensures effect { Calls (L.is_told engine.old.link) (given_by_rules engine.old) engine.old.journal.events
         act
         (moment (L.store engine.old.link) (L.faults engine.old.link))
         (moment (L.store engine.new.link) (L.faults engine.new.link))
         engine.new.journal.events hand.old hand.new result }
-    ensures keeps { L.is_told engine.old.link ≡ true → StoresOnly (has_log engine.old.given)
+    ensures keeps { L.is_told engine.old.link ≡ true → StoresOnly (has_log (given_by_rules engine.old))
         (L.store engine.old.link) (L.store engine.new.link) }
-    ensures given { engine.new.given ≡ engine.old.given }
+    ensures given { (given_by_rules engine.new) ≡ (given_by_rules engine.old) }
     ensures told { L.is_told engine.new.link ≡ L.is_told engine.old.link }
     ensures count { L.faults engine.old.link ≤ L.faults engine.new.link }
 {
@@ -56,14 +56,14 @@ pub(crate) fn call<'a, L: Link>(
 
 /// Assigns a part.
 fn assign<L: Link>(engine: &mut Engine<'_, L>, part: u32) -> Result<Option<Notice>, AllocError>
-    ensures effect { (hand : Hand) → Calls (L.is_told engine.old.link) engine.old.given
+    ensures effect { (hand : Hand) → Calls (L.is_told engine.old.link) (given_by_rules engine.old)
         engine.old.journal.events (Assign part)
         (moment (L.store engine.old.link) (L.faults engine.old.link))
         (moment (L.store engine.new.link) (L.faults engine.new.link))
         engine.new.journal.events hand hand result }
-    ensures keeps { L.is_told engine.old.link ≡ true → StoresOnly (has_log engine.old.given)
+    ensures keeps { L.is_told engine.old.link ≡ true → StoresOnly (has_log (given_by_rules engine.old))
         (L.store engine.old.link) (L.store engine.new.link) }
-    ensures given { engine.new.given ≡ engine.old.given }
+    ensures given { (given_by_rules engine.new) ≡ (given_by_rules engine.old) }
     ensures told { L.is_told engine.new.link ≡ L.is_told engine.old.link }
     ensures count { L.faults engine.old.link ≤ L.faults engine.new.link }
 {
@@ -75,14 +75,14 @@ fn assign<L: Link>(engine: &mut Engine<'_, L>, part: u32) -> Result<Option<Notic
 
 /// Commits a part.
 fn commit<L: Link>(engine: &mut Engine<'_, L>, part: u32) -> Result<Option<Notice>, AllocError>
-    ensures effect { (hand : Hand) → Calls (L.is_told engine.old.link) engine.old.given
+    ensures effect { (hand : Hand) → Calls (L.is_told engine.old.link) (given_by_rules engine.old)
         engine.old.journal.events (Commit part)
         (moment (L.store engine.old.link) (L.faults engine.old.link))
         (moment (L.store engine.new.link) (L.faults engine.new.link))
         engine.new.journal.events hand hand result }
-    ensures keeps { L.is_told engine.old.link ≡ true → StoresOnly (has_log engine.old.given)
+    ensures keeps { L.is_told engine.old.link ≡ true → StoresOnly (has_log (given_by_rules engine.old))
         (L.store engine.old.link) (L.store engine.new.link) }
-    ensures given { engine.new.given ≡ engine.old.given }
+    ensures given { (given_by_rules engine.new) ≡ (given_by_rules engine.old) }
     ensures told { L.is_told engine.new.link ≡ L.is_told engine.old.link }
     ensures count { L.faults engine.old.link ≤ L.faults engine.new.link }
 {
@@ -99,12 +99,12 @@ fn poll<L: Link>(
     max: u32,
 ) -> Result<Option<Notice>, AllocError>
     requires { IsPlayable (Poll part max) }
-    ensures effect { (hand : Hand) → Calls (L.is_told engine.old.link) engine.old.given
+    ensures effect { (hand : Hand) → Calls (L.is_told engine.old.link) (given_by_rules engine.old)
         engine.old.journal.events (Poll part max)
         (moment (L.store engine.old.link) (L.faults engine.old.link))
         (moment (L.store engine.new.link) (L.faults engine.new.link))
         engine.new.journal.events hand hand result }
-    ensures given { engine.new.given ≡ engine.old.given }
+    ensures given { (given_by_rules engine.new) ≡ (given_by_rules engine.old) }
     ensures link { engine.new.link ≡ engine.old.link }
 {
     match engine.poll(part, max) {
@@ -131,12 +131,12 @@ fn take<'a, L: Link>(
     worker: u32,
 ) -> Result<Option<Notice>, AllocError>
     requires { worker < 256 }
-    ensures effect { Calls (L.is_told engine.old.link) engine.old.given engine.old.journal.events
+    ensures effect { Calls (L.is_told engine.old.link) (given_by_rules engine.old) engine.old.journal.events
         (Take worker)
         (moment (L.store engine.old.link) (L.faults engine.old.link))
         (moment (L.store engine.new.link) (L.faults engine.new.link))
         engine.new.journal.events hand.old hand.new result }
-    ensures given { engine.new.given ≡ engine.old.given }
+    ensures given { (given_by_rules engine.new) ≡ (given_by_rules engine.old) }
     ensures link { engine.new.link ≡ engine.old.link }
 {
     match engine.take(worker) {
@@ -156,12 +156,12 @@ fn end<'a, L: Link>(
     hand: &mut Hand<'a>,
     ticket: u64,
 ) -> Result<Option<Notice>, AllocError>
-    ensures effect { Calls (L.is_told engine.old.link) engine.old.given engine.old.journal.events
+    ensures effect { Calls (L.is_told engine.old.link) (given_by_rules engine.old) engine.old.journal.events
         (End ticket)
         (moment (L.store engine.old.link) (L.faults engine.old.link))
         (moment (L.store engine.new.link) (L.faults engine.new.link))
         engine.new.journal.events hand.old hand.new result }
-    ensures given { engine.new.given ≡ engine.old.given }
+    ensures given { (given_by_rules engine.new) ≡ (given_by_rules engine.old) }
     ensures link { engine.new.link ≡ engine.old.link }
 {
     match hand.remove(ticket) {
@@ -177,13 +177,13 @@ fn settle<'a, L: Link>(
     job: Job<'a>,
 ) -> Result<Option<Notice>, AllocError>
     ensures settles { IfOk result (λ notice. (others : List PlainJob)
-        → IsExpected engine.old.given engine.old.journal.events (plain_job job.entry)
-        → let step = end_job engine.old.given engine.old.journal.events others
+        → IsExpected (given_by_rules engine.old) engine.old.journal.events (plain_job job.entry)
+        → let step = end_job (given_by_rules engine.old) engine.old.journal.events others
         (plain_job job.entry) in
         (engine.new.journal.events ≡ step.events ++ engine.old.journal.events)
         × (notice ≡ step.notice)) }
     ensures stays { OnErr result (engine.new.journal.events ≡ engine.old.journal.events) }
-    ensures given { engine.new.given ≡ engine.old.given }
+    ensures given { (given_by_rules engine.new) ≡ (given_by_rules engine.old) }
     ensures link { engine.new.link ≡ engine.old.link }
 {
     match RuleTask.call(alloc, &job) {
@@ -208,12 +208,12 @@ fn settled(settled: Settled<'_>) -> Option<Notice>
 
 /// Moves the clock on.
 fn tick<L: Link>(engine: &mut Engine<'_, L>, now: u64) -> Result<Option<Notice>, AllocError>
-    ensures effect { (hand : Hand) → Calls (L.is_told engine.old.link) engine.old.given
+    ensures effect { (hand : Hand) → Calls (L.is_told engine.old.link) (given_by_rules engine.old)
         engine.old.journal.events (Tick now)
         (moment (L.store engine.old.link) (L.faults engine.old.link))
         (moment (L.store engine.new.link) (L.faults engine.new.link))
         engine.new.journal.events hand hand result }
-    ensures given { engine.new.given ≡ engine.old.given }
+    ensures given { (given_by_rules engine.new) ≡ (given_by_rules engine.old) }
     ensures link { engine.new.link ≡ engine.old.link }
 {
     match engine.tick(now) {
@@ -225,14 +225,14 @@ fn tick<L: Link>(engine: &mut Engine<'_, L>, now: u64) -> Result<Option<Notice>,
 
 /// Gives a part back. Where its commit failed, the events say so.
 fn revoke<L: Link>(engine: &mut Engine<'_, L>, part: u32) -> Result<Option<Notice>, AllocError>
-    ensures effect { (hand : Hand) → Calls (L.is_told engine.old.link) engine.old.given
+    ensures effect { (hand : Hand) → Calls (L.is_told engine.old.link) (given_by_rules engine.old)
         engine.old.journal.events (Revoke part)
         (moment (L.store engine.old.link) (L.faults engine.old.link))
         (moment (L.store engine.new.link) (L.faults engine.new.link))
         engine.new.journal.events hand hand result }
-    ensures keeps { L.is_told engine.old.link ≡ true → StoresOnly (has_log engine.old.given)
+    ensures keeps { L.is_told engine.old.link ≡ true → StoresOnly (has_log (given_by_rules engine.old))
         (L.store engine.old.link) (L.store engine.new.link) }
-    ensures given { engine.new.given ≡ engine.old.given }
+    ensures given { (given_by_rules engine.new) ≡ (given_by_rules engine.old) }
     ensures told { L.is_told engine.new.link ≡ L.is_told engine.old.link }
     ensures count { L.faults engine.old.link ≤ L.faults engine.new.link }
 {
@@ -244,12 +244,12 @@ fn revoke<L: Link>(engine: &mut Engine<'_, L>, part: u32) -> Result<Option<Notic
 
 /// Loses a part.
 fn lose<L: Link>(engine: &mut Engine<'_, L>, part: u32) -> Result<Option<Notice>, AllocError>
-    ensures effect { (hand : Hand) → Calls (L.is_told engine.old.link) engine.old.given
+    ensures effect { (hand : Hand) → Calls (L.is_told engine.old.link) (given_by_rules engine.old)
         engine.old.journal.events (Lose part)
         (moment (L.store engine.old.link) (L.faults engine.old.link))
         (moment (L.store engine.new.link) (L.faults engine.new.link))
         engine.new.journal.events hand hand result }
-    ensures given { engine.new.given ≡ engine.old.given }
+    ensures given { (given_by_rules engine.new) ≡ (given_by_rules engine.old) }
     ensures link { engine.new.link ≡ engine.old.link }
 {
     match engine.lose(part) {
@@ -260,12 +260,12 @@ fn lose<L: Link>(engine: &mut Engine<'_, L>, part: u32) -> Result<Option<Notice>
 
 /// Lets the engine crash. The jobs in hand stay there.
 fn crash<L: Link>(engine: &mut Engine<'_, L>) -> Result<Option<Notice>, AllocError>
-    ensures effect { (hand : Hand) → Calls (L.is_told engine.old.link) engine.old.given
+    ensures effect { (hand : Hand) → Calls (L.is_told engine.old.link) (given_by_rules engine.old)
         engine.old.journal.events Crash
         (moment (L.store engine.old.link) (L.faults engine.old.link))
         (moment (L.store engine.new.link) (L.faults engine.new.link))
         engine.new.journal.events hand hand result }
-    ensures given { engine.new.given ≡ engine.old.given }
+    ensures given { (given_by_rules engine.new) ≡ (given_by_rules engine.old) }
     ensures link { engine.new.link ≡ engine.old.link }
 {
     match engine.crash() {

@@ -1,6 +1,7 @@
 //! The play: one call of the engine for each line of a script.
 
 ghost use Rattle.std.specs.Prelude.{◌≡◌, ◌≤◌, List, true, [], OnErr, OnOk, IsErr};
+ghost use Rattle.pc_model.specs.Outcomes.{outcome_of};
 ghost use Rattle.pc_model.specs.Given.{has_log};
 ghost use Rattle.pc_script.specs.PlayScript.{ArePlayable, IsPlayable};
 ghost use Rattle.pc_offset_client.specs.Client.{kept_for};
@@ -8,7 +9,7 @@ ghost use Rattle.pc_task.specs.Jobs.{PlainJob};
 ghost use Rattle.pc_engine.specs.Effect.{StoresOnly};
 ghost use Rattle.pc_engine.specs.Engine.{given_by};
 ghost use Rattle.pc_play.specs.Hand.{HasInHand};
-ghost use Rattle.pc_play.specs.Play.{Breaks, IsPlayed, LeadTo, LeadsTo, StopsIn, moment};
+ghost use Rattle.pc_play.specs.Play.{given_by_rules, Breaks, IsPlayed, LeadTo, LeadsTo, StopsIn, moment};
 ghost use Rattle.pc_play.specs.Kept.{IsKept};
 
 use crate::calls::call;
@@ -42,8 +43,8 @@ fn play_line<'a, L: Link>(
 ) -> Result<(), AllocError>
     requires { IsPlayable line.now.act }
     ensures ok { OnOk result ((jobs : List PlainJob)
-        → HasInHand engine.old.given engine.old.journal.events jobs hand.old
-        → LeadsTo (L.is_told engine.old.link) engine.old.given (record {
+        → HasInHand (given_by_rules engine.old) engine.old.journal.events jobs hand.old
+        → LeadsTo (L.is_told engine.old.link) (given_by_rules engine.old) (record {
           history = engine.old.journal.events;
           hand = jobs;
           remarks = remarks.old.items;
@@ -51,14 +52,14 @@ fn play_line<'a, L: Link>(
         (moment (L.store engine.new.link) (L.faults engine.new.link))
         engine.new.journal.events hand.new remarks.new.items) }
     ensures err { OnErr result ((jobs : List PlainJob)
-        → HasInHand engine.old.given engine.old.journal.events jobs hand.old
-        → Breaks (L.is_told engine.old.link) engine.old.given engine.old.journal.events jobs
+        → HasInHand (given_by_rules engine.old) engine.old.journal.events jobs hand.old
+        → Breaks (L.is_told engine.old.link) (given_by_rules engine.old) engine.old.journal.events jobs
         line.now.act (moment (L.store engine.old.link) (L.faults engine.old.link))
         (moment (L.store engine.new.link) (L.faults engine.new.link))
         engine.new.journal.events) }
-    ensures keeps { L.is_told engine.old.link ≡ true → StoresOnly (has_log engine.old.given)
+    ensures keeps { L.is_told engine.old.link ≡ true → StoresOnly (has_log (given_by_rules engine.old))
         (L.store engine.old.link) (L.store engine.new.link) }
-    ensures given { engine.new.given ≡ engine.old.given }
+    ensures given { (given_by_rules engine.new) ≡ (given_by_rules engine.old) }
     ensures told { L.is_told engine.new.link ≡ L.is_told engine.old.link }
     ensures count { L.faults engine.old.link ≤ L.faults engine.new.link }
 {
@@ -80,8 +81,8 @@ fn play_lines<'a, L: Link>(
 ) -> Result<(), AllocError>
     requires { ArePlayable lines.now }
     ensures ok { OnOk result ((jobs : List PlainJob)
-        → HasInHand engine.old.given engine.old.journal.events jobs hand.old
-        → LeadTo (L.is_told engine.old.link) engine.old.given (record {
+        → HasInHand (given_by_rules engine.old) engine.old.journal.events jobs hand.old
+        → LeadTo (L.is_told engine.old.link) (given_by_rules engine.old) (record {
           history = engine.old.journal.events;
           hand = jobs;
           remarks = remarks.old.items;
@@ -89,17 +90,17 @@ fn play_lines<'a, L: Link>(
         (moment (L.store engine.new.link) (L.faults engine.new.link))
         engine.new.journal.events hand.new remarks.new.items) }
     ensures err { OnErr result ((jobs : List PlainJob)
-        → HasInHand engine.old.given engine.old.journal.events jobs hand.old
-        → StopsIn (L.is_told engine.old.link) engine.old.given (record {
+        → HasInHand (given_by_rules engine.old) engine.old.journal.events jobs hand.old
+        → StopsIn (L.is_told engine.old.link) (given_by_rules engine.old) (record {
           history = engine.old.journal.events;
           hand = jobs;
           remarks = remarks.old.items;
         }) lines.now (moment (L.store engine.old.link) (L.faults engine.old.link))
         (moment (L.store engine.new.link) (L.faults engine.new.link))
         engine.new.journal.events) }
-    ensures keeps { L.is_told engine.old.link ≡ true → StoresOnly (has_log engine.old.given)
+    ensures keeps { L.is_told engine.old.link ≡ true → StoresOnly (has_log (given_by_rules engine.old))
         (L.store engine.old.link) (L.store engine.new.link) }
-    ensures given { engine.new.given ≡ engine.old.given }
+    ensures given { (given_by_rules engine.new) ≡ (given_by_rules engine.old) }
     ensures told { L.is_told engine.new.link ≡ L.is_told engine.old.link }
     ensures count { L.faults engine.old.link ≤ L.faults engine.new.link }
 {
@@ -113,10 +114,10 @@ fn play_lines<'a, L: Link>(
 fn play_on<L: Link>(alloc: Global, mut engine: Engine<'_, L>, lines: &[PlayLine]) -> Played<L>
     requires empty { engine.journal.events ≡ [] }
     requires playable { ArePlayable lines.now }
-    ensures kept { IsKept engine.entry.given (L.store engine.entry.link) (L.store result.link)
+    ensures kept { IsKept (given_by_rules engine.entry) (L.store engine.entry.link) (L.store result.link)
         result.journal.events }
     ensures played { IsPlayed (λ remarks. remarks.items) (L.is_told engine.entry.link)
-        engine.entry.given lines.now
+        (given_by_rules engine.entry) lines.now
         (moment (L.store engine.entry.link) (L.faults engine.entry.link))
         (moment (L.store result.link) (L.faults result.link)) result.journal.events result.remarks }
 {
@@ -135,8 +136,8 @@ fn left<L: Link>(engine: Engine<'_, L>, remarks: Result<Vec<Remark>, AllocError>
     ensures remarks { result.remarks ≡ remarks }
     ensures journal { result.journal ≡ engine.entry.journal }
     ensures link { result.link ≡ engine.entry.link }
-    ensures told { engine.entry.given.is_told ≡ L.is_told engine.entry.link }
-    ensures kept { IsKept engine.entry.given (L.store engine.entry.link) (L.store result.link)
+    ensures told { engine.entry.is_told ≡ L.is_told engine.entry.link }
+    ensures kept { IsKept (given_by_rules engine.entry) (L.store engine.entry.link) (L.store result.link)
         result.journal.events }
 {
     let (journal, link) = engine.into_parts();
@@ -156,9 +157,9 @@ pub fn play<L: Link>(
     link: L,
 ) -> Played<L>
     requires playable { ArePlayable lines.now }
-    ensures kept { let given = given_by setup.now logs.now [] (L.is_told link) (kept_for (L.store link)) in
+    ensures kept { let given = given_by setup.now logs.now [] (L.is_told link) outcome_of (kept_for (L.store link)) in
         IsKept given (L.store link) (L.store result.link) result.journal.events }
-    ensures played { let given = given_by setup.now logs.now [] (L.is_told link) (kept_for (L.store link)) in
+    ensures played { let given = given_by setup.now logs.now [] (L.is_told link) outcome_of (kept_for (L.store link)) in
         IsPlayed (λ remarks. remarks.items) (L.is_told link) given lines.now
         (moment (L.store link) (L.faults link))
         (moment (L.store result.link) (L.faults result.link)) result.journal.events result.remarks }

@@ -1,6 +1,7 @@
 -- The starts were stored and the lines played, or not.
 use Rattle.std.proofs.Common.{◌≡◌, Bool, List, [], Ok, ap, subst, sym}
 use Rattle.std.specs.List.{All}
+use Rattle.pc_model.specs.Outcomes.{outcome_of}
 use Rattle.pc_model.specs.declared.outcome.Start.{Start}
 use Rattle.pc_offset_client.specs.Client.{kept_for}
 use Rattle.pc_engine.specs.Engine.{given_by}
@@ -49,7 +50,7 @@ returns-in-Ok g c =
     (g.L.Link.faults c.send_starts-answer.result.link)) c.send_starts-answer.result.answer)
     c.as_slice-starts.ensures c.send_starts-answer.ensures.sends))
     (subst (λ (b : Bool). Plays (given_by c.args.plan.now.setup c.args.plan.now.logs [] b
-    (kept_for (g.L.Link.store c.send_starts-answer.result.link))) (Ok c.args.plan.now.script)
+    outcome_of (kept_for (g.L.Link.store c.send_starts-answer.result.link))) (Ok c.args.plan.now.script)
     (record {
       is_told = b;
       store = g.L.Link.store c.send_starts-answer.result.link;

@@ -1,5 +1,6 @@
 -- What the play left is told.
 use Rattle.std.proofs.Common.{Ok, [], List, ap, sym, subst}
+use Rattle.pc_model.specs.Outcomes.{outcome_of}
 use Rattle.pc_script.specs.declared.play.PlayLine.{PlayLine}
 use Rattle.pc_offset_client.specs.Client.{kept_for}
 use Rattle.pc_engine.specs.Engine.{given_by}
@@ -11,7 +12,7 @@ use Rattle.parcon.proofs.play_setup.play_setup.Goals as goal
 pub returns : goal.returns
 returns g c =
     let given = given_by c.args.setup.now c.args.logs.now [] (g.L.Link.is_told c.args.link)
-    (kept_for (g.L.Link.store c.args.link)) in
+    outcome_of (kept_for (g.L.Link.store c.args.link)) in
     plays-kept given (Ok c.args.script.now)
     (record {
       is_told = g.L.Link.is_told c.args.link;

@@ -1,13 +1,13 @@
 -- Each call does what its line asks for; a line that is not built makes none.
 use Rattle.std.proofs.Common.{refl, arith}
-use Rattle.pc_play.specs.Play.{moment}
+use Rattle.pc_play.specs.Play.{given_by_rules, moment}
 use Rattle.pc_play.proofs.CallLemmas.{none-made}
 use Rattle.pc_engine.proofs.EngineLemmas.{stores_only-same}
 use Rattle.pc_play.proofs.calls.call.Goals as goal
 
 pub returns-in_default : goal.returns-in_default
 returns-in_default g c = record {
-  effect = λ jobs has. none-made (g.L.Link.is_told c.args.engine.now.link) c.args.engine.now.given c.args.engine.now.journal.events
+  effect = λ jobs has. none-made (g.L.Link.is_told c.args.engine.now.link) (given_by_rules c.args.engine.now) c.args.engine.now.journal.events
       jobs c.args.hand.now c.args.act
       (moment (g.L.Link.store c.args.engine.now.link) (g.L.Link.faults c.args.engine.now.link)) has
       c.in_default.not-Assign c.in_default.not-Commit c.in_default.not-Poll

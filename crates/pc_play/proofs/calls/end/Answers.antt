@@ -3,17 +3,17 @@ use Rattle.std.proofs.Common.{refl, ap}
 use Rattle.pc_script.specs.declared.play.PlayAct.TheVariants.{End}
 use Rattle.pc_task.specs.Jobs.{plain_job}
 use Rattle.pc_play.specs.Hand.{without}
-use Rattle.pc_play.specs.Play.{moment}
+use Rattle.pc_play.specs.Play.{given_by_rules, moment}
 use Rattle.pc_play.proofs.CallLemmas.{calls-settled, ended, not-in-hand}
 use Rattle.pc_play.proofs.calls.end.Goals as goal
 
 pub returns-in-Some-clause-effect : goal.returns-in-Some-clause-effect
 returns-in-Some-clause-effect g c = calls-settled (g.L.Link.is_told c.args.engine.now.link)
-    c.args.engine.now.given c.args.engine.now.journal.events (End c.args.ticket)
+    (given_by_rules c.args.engine.now) c.args.engine.now.journal.events (End c.args.ticket)
     (moment (g.L.Link.store c.args.engine.now.link) (g.L.Link.faults c.args.engine.now.link))
     (moment (g.L.Link.store c.settle.new.engine.link) (g.L.Link.faults c.settle.new.engine.link))
     c.settle.new.engine.journal.events c.args.hand.now c.remove.new.self c.settle.result _
-    (λ notice is jobs has. ended c.args.engine.now.given c.args.engine.now.journal.events
+    (λ notice is jobs has. ended (given_by_rules c.args.engine.now) c.args.engine.now.journal.events
     c.settle.new.engine.journal.events (g.L.Link.is_told c.args.engine.now.link)
     (moment (g.L.Link.store c.args.engine.now.link) (g.L.Link.faults c.args.engine.now.link))
     (moment (g.L.Link.store c.settle.new.engine.link) (g.L.Link.faults c.settle.new.engine.link))
@@ -25,7 +25,7 @@ returns-in-Some-clause-effect g c = calls-settled (g.L.Link.is_told c.args.engin
     c.settle.ensures.settles c.settle.ensures.stays
 
 pub returns-in-None-clause-effect : goal.returns-in-None-clause-effect
-returns-in-None-clause-effect g c jobs has = not-in-hand c.args.engine.now.given c.args.engine.now.journal.events
+returns-in-None-clause-effect g c jobs has = not-in-hand (given_by_rules c.args.engine.now) c.args.engine.now.journal.events
     c.args.engine.now.journal.events (g.L.Link.is_told c.args.engine.now.link)
     (moment (g.L.Link.store c.args.engine.now.link) (g.L.Link.faults c.args.engine.now.link))
     (moment (g.L.Link.store c.args.engine.now.link) (g.L.Link.faults c.args.engine.now.link))

@@ -4,14 +4,14 @@ use Rattle.pc_script.specs.declared.play.PlayAct.TheVariants.{Assign}
 use Rattle.pc_model.specs.Given.{Given, has_log}
 use Rattle.pc_task.specs.Jobs.{PlainJob}
 use Rattle.pc_play.specs.Hand.{HasInHand}
-use Rattle.pc_play.specs.Play.{Breaks, LeadsTo, moment}
+use Rattle.pc_play.specs.Play.{given_by_rules, Breaks, LeadsTo, moment}
 use Rattle.pc_play.proofs.PlayLemmas.{lead-none, lead-next, lead-stops, on-err, playable-at, stores_only-next}
 use Rattle.pc_engine.proofs.EngineLemmas.{stores_only-same}
 use Rattle.pc_play.proofs.lines.play_lines.Goals as goal
 
 pub loop-line-init : goal.loop-line-init
 loop-line-init g c = record {
-  plays = λ jobs has. lead-none (g.L.Link.is_told c.args.engine.now.link) c.args.engine.now.given
+  plays = λ jobs has. lead-none (g.L.Link.is_told c.args.engine.now.link) (given_by_rules c.args.engine.now)
       c.args.engine.now.journal.events jobs c.args.hand.now c.args.remarks.now.items
       (moment (g.L.Link.store c.args.engine.now.link) (g.L.Link.faults c.args.engine.now.link)) has;
   keeps = λ told. stores_only-same _ _ _ refl;
@@ -26,7 +26,7 @@ play_line-requires g c = playable-at c.args.lines.now c.loop-line.line-index
 
 pub loop-line-preserved : goal.loop-line-preserved
 loop-line-preserved g c = record {
-  plays = λ jobs has. lead-next (g.L.Link.is_told c.args.engine.now.link) c.args.engine.now.given
+  plays = λ jobs has. lead-next (g.L.Link.is_told c.args.engine.now.link) (given_by_rules c.args.engine.now)
       (record {
         history = c.args.engine.now.journal.events;
         hand = jobs;
@@ -54,8 +54,8 @@ loop-line-preserved g c = record {
       c.play_line.new.engine.journal.events c.play_line.new.hand c.play_line.new.remarks.items)
       c.loop-line.invariant.given
       (subst (λ (told : Bool). (jobs : List PlainJob)
-      → HasInHand c.loop-line.engine.given c.loop-line.engine.journal.events jobs c.loop-line.hand
-      → LeadsTo told c.loop-line.engine.given (record {
+      → HasInHand (given_by_rules c.loop-line.engine) c.loop-line.engine.journal.events jobs c.loop-line.hand
+      → LeadsTo told (given_by_rules c.loop-line.engine) (record {
         history = c.loop-line.engine.journal.events;
         hand = jobs;
         remarks = c.loop-line.remarks.items;
@@ -76,7 +76,7 @@ loop-line-preserved g c = record {
 pub returns-in_err-play_line-clause-err : goal.returns-in_err-play_line-clause-err
 returns-in_err-play_line-clause-err g c =
     on-err c.from_residual.result (λ jobs has. lead-stops (g.L.Link.is_told c.args.engine.now.link)
-    c.args.engine.now.given
+    (given_by_rules c.args.engine.now)
     (record {
       history = c.args.engine.now.journal.events;
       hand = jobs;
@@ -101,8 +101,8 @@ returns-in_err-play_line-clause-err g c =
     c.play_line.new.engine.journal.events)
     c.loop-line.invariant.given
     (subst (λ (told : Bool). (jobs : List PlainJob)
-    → HasInHand c.loop-line.engine.given c.loop-line.engine.journal.events jobs c.loop-line.hand
-    → Breaks told c.loop-line.engine.given c.loop-line.engine.journal.events jobs
+    → HasInHand (given_by_rules c.loop-line.engine) c.loop-line.engine.journal.events jobs c.loop-line.hand
+    → Breaks told (given_by_rules c.loop-line.engine) c.loop-line.engine.journal.events jobs
     (get_or c.args.lines.now c.loop-line.line-index (record { line = 0; act = Assign 0 })).act
     (moment (g.L.Link.store c.loop-line.engine.link) (g.L.Link.faults c.loop-line.engine.link))
     (moment (g.L.Link.store c.play_line.new.engine.link)
