@@ -1,5 +1,5 @@
 -- What the call of a line makes of a history and of the jobs in hand.
-use Rattle.std.proofs.Common.{◌≡◌, ◌≤◌, ℕ, Bool, true, false, ◌&&◌, ◌==◌, inl, inr, List, ◌++◌, Option, Some, None, Result, Ok, Err, refl, ap, sym, subst, ◌∙◌, arith, true≢false}
+use Rattle.std.proofs.Common.{◌≡◌, ◌≤◌, ℕ, Bool, true, false, ◌&&◌, ◌==◌, inl, inr, List, ◌∷◌, ◌++◌, Option, Some, None, Result, Ok, Err, refl, ap, sym, subst, ◌∙◌, arith, true≢false}
 use Rattle.std.specs.Prelude.{IfOk, IsErr, MatchResult, OnErr}
 use Rattle.std.proofs.lemmas.Bool.{cases_Bool}
 use Rattle.pc_model.specs.declared.commit.Commit.{Commit as StoredCommit}
@@ -26,7 +26,7 @@ use Rattle.pc_engine.specs.declared.settled.Settled.TheVariants as settled
 use Rattle.pc_model.specs.declared.outcome.Outcome.{Outcome}
 use Rattle.pc_model.specs.declared.outcome.Outcome.TheVariants.{Good, Bad}
 use Rattle.pc_state.specs.Calls.{IsExpected}
-use Rattle.pc_engine.specs.Effect.{Step, Does, IsFetched, IsStored, KeepsStore, Settles, assign_after, assign_refusal, assign_step, commit_after, commit_refusal, commit_step, crash_step, lose_step, poll_step, revoke_after, revoke_refusal, revoke_step, settle_current, settle_step, take_step, tick_step}
+use Rattle.pc_engine.specs.Effect.{Step, Does, IsFetched, IsStored, KeepsStore, Settles, assign_after, assign_refusal, assign_step, commit_after, commit_refusal, commit_step, crash_step, lose_step, poll_step, revoke_after, revoke_refusal, revoke_step, settle_event, settle_step, settled_as, take_step, tick_step}
 use Rattle.pc_play.specs.declared.hand.Hand.{Hand}
 use Rattle.pc_play.specs.declared.remark.Notice.{Notice}
 use Rattle.pc_play.specs.declared.remark.Notice.TheVariants.{Refused, Stranger}
@@ -387,33 +387,33 @@ calls-settled told given h act m m' h' hand hand' (Err e) P made same is stays =
     λ jobs. inl (stays, aborted-same told m m' same)
 
 -- a job that the engine was given the result of
-pub settled-so : (given : Given) (h h' : List Event) (done : Finished) (job : PlainJob)
-    (answer : Settled) → finished_job done ≡ job → done.outcome ≡ due_outcome outcome_of job
+pub settled-so : {T : Type 0} {task : Ghosts T} (given : Given) (h h' : List Event)
+    (done : Finished T task) (job : PlainJob) (answer : Settled T task) → finished_job done ≡ job → done.outcome ≡ due_outcome outcome_of job
     → (has_ended h ≡ true → (answer ≡ settled.Closed done) × (h' ≡ h))
     → (has_ended h ≡ false → IsExpected given h (finished_job done)
     → Settles answer (settle_step given h (finished_job done) done.outcome) h h')
     → (others : List PlainJob) → IsExpected given h job
     → (h' ≡ (end_job given h others job).events ++ h)
     × (settled_notice answer ≡ (end_job given h others job).notice)
-settled-so given h h' done job answer is outcome closed settles others expected =
+settled-so {T} {task} given h h' done job answer is outcome closed settles others expected =
     elim (cases_Bool (has_ended h)) [
       | inl ended ↦ let shut = closed ended in
           rw ended (shut.1, ap settled_notice shut.0)
       | inr runs ↦ let does = settles runs (subst (IsExpected given h) (sym is) expected) in
           rw runs (
-            does.1 ∙ ap (λ (j : PlainJob). (settle_step given h j done.outcome).events ++ h) is
-                ∙ ap (λ (o : Outcome). (settle_step given h job o).events ++ h) outcome,
+            does.1 ∙ ap (λ (j : PlainJob). settle_event given h j done.outcome ∷ h) is
+                ∙ ap (λ (o : Outcome). settle_event given h job o ∷ h) outcome,
             ap settled_notice does.0 ∙ no-notice (finished_job done) done.outcome,
           )
     ]
   where
     current : (j : PlainJob) (o : Outcome)
-        → settled_notice (settle_current given h j o).answer ≡ None
+        → settled_notice {T = T} {task = task} (settled_as given h j o) ≡ None
     current j (Good answer) = refl
     current j (Bad code) = refl
 
     no-notice : (j : PlainJob) (o : Outcome)
-        → settled_notice (settle_step given h j o).answer ≡ None
+        → settled_notice {T = T} {task = task} (settle_step given h j o).answer ≡ None
     no-notice j o = elim (cases_Bool (is_held h j.part && (j.epoch == epoch_of h j.part))) [
       | inl held ↦ rw held (current j o)
       | inr past ↦ rw past refl

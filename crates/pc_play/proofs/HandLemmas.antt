@@ -23,12 +23,14 @@ use Rattle.pc_laws.proofs.Lists.{In-find}
 use Rattle.pc_laws.proofs.OrderlyLaw.{polled-record}
 use Rattle.pc_offset_client.specs.declared.fault.ClientFault.{ClientFault}
 use Rattle.pc_offset_client.specs.declared.fault.ClientFault.TheVariants as client
+use Rattle.pc_model.specs.Outcomes.{outcome_of}
+use Rattle.pc_task.specs.declared.task.RuleTask.{RuleTask}
 use Rattle.pc_task.specs.Jobs.{PlainJob, plain_job, due_outcome}
 use Rattle.pc_task.specs.declared.job.Job.{Job as TaskJob}
 use Rattle.pc_engine.specs.declared.fault.EngineFault.{EngineFault}
 use Rattle.pc_state.specs.declared.jobs.OpenJob.{OpenJob}
 use Rattle.pc_state.specs.Calls.{IsExpected, job_to_do, no_record}
-use Rattle.pc_engine.specs.Effect.{assign_after, assign_refusal, assign_step, assign_with, commit_after, commit_refusal, commit_step, crash_after, crash_refusal, crash_step, tick_after, tick_refusal, tick_step, lose_after, lose_refusal, lose_step, revoke_after, revoke_refusal, revoke_step, is_full, poll_after, poll_left, poll_refusal, poll_step, settle_current, settle_step, take_after, take_next, take_refusal, take_step}
+use Rattle.pc_engine.specs.Effect.{assign_after, assign_refusal, assign_step, assign_with, commit_after, commit_refusal, commit_step, crash_after, crash_refusal, crash_step, tick_after, tick_refusal, tick_step, lose_after, lose_refusal, lose_step, revoke_after, revoke_refusal, revoke_step, is_full, poll_after, poll_left, poll_refusal, poll_step, settled_event, settle_event, take_after, take_next, take_refusal, take_step}
 use Rattle.pc_state.specs.OpenJobs.{kept_job, open_job}
 use Rattle.pc_state.proofs.DispatchLemmas.{next-open}
 use Rattle.pc_state.proofs.OpenJobsLemmas.{open_job-dispatch, open_job-settled}
@@ -116,7 +118,7 @@ all-without P Q t (j ∷ jobs) f all = elim (cases_Bool (j.ticket == t)) [
 -- ---- the jobs by their tickets
 
 -- a job comes into hand
-pub are_in-add : (old new : ℕ → Option TaskJob) (job : TaskJob) (jobs : List PlainJob)
+pub are_in-add : (old new : ℕ → Option (TaskJob RuleTask)) (job : TaskJob RuleTask) (jobs : List PlainJob)
     → ((u : ℕ) → new u ≡ cond (job.ticket == u) (Some job) (old u))
     → ((u : ℕ) → option_map plain_job (old u) ≡ job_with u jobs)
     → (u : ℕ) → option_map plain_job (new u) ≡ job_with u (plain_job job ∷ jobs)
@@ -129,7 +131,7 @@ are_in-add old new job jobs updates are u =
     more false = are u
 
 -- a ticket's job goes from hand
-pub are_in-remove : (old new : ℕ → Option TaskJob) (t : ℕ) (jobs : List PlainJob)
+pub are_in-remove : (old new : ℕ → Option (TaskJob RuleTask)) (t : ℕ) (jobs : List PlainJob)
     → ((u : ℕ) → new u ≡ cond (t == u) None (old u))
     → ((u : ℕ) → option_map plain_job (old u) ≡ job_with u jobs)
     → (u : ℕ) → option_map plain_job (new u) ≡ job_with u (without t jobs)
@@ -411,14 +413,14 @@ module _ (given : Given) (h : List Event) (jobs : List PlainJob) (e : Expects gi
 
         current : (job : PlainJob) → job.ticket ≡ t → job.ticket ≤ dispatch_count h
             → (o : Outcome)
-            → Expects given ((settle_current given h job o).events ++ h) (without t jobs)
+            → Expects given (settled_event given h job o ∷ h) (without t jobs)
         current job at within (Good answer) = settled-expects _ (subst (λ (n : ℕ). n ≤ dispatch_count h) at within) refl (own job at)
         current job at within (Bad code) = settled-expects _ (subst (λ (n : ℕ). n ≤ dispatch_count h) at within) refl (own job at)
 
         settled-by : (job : PlainJob) → job.ticket ≡ t → job.ticket ≤ dispatch_count h
-            → Expects given ((settle_step given h job (due_outcome job)).events ++ h)
+            → Expects given (settle_event given h job (due_outcome outcome_of job) ∷ h)
             (without t jobs)
         settled-by job at within = elim (cases_Bool (is_held h job.part && (job.epoch == epoch_of h job.part))) [
-          | inl held ↦ rw held (current job at within (due_outcome job))
+          | inl held ↦ rw held (current job at within (due_outcome outcome_of job))
           | inr past ↦ rw past (settled-expects _ (subst (λ (n : ℕ). n ≤ dispatch_count h) at within) refl (own job at))
         ]
