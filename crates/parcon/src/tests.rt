@@ -59,8 +59,8 @@ fn play<L: Link + Drop>(
 struct Row {
     config: &'static [u8],
     script: &'static [u8],
-    /// The text of the map of the commit at 7 that the broker has for part 0 at first, if it has one.
-    map: Option<&'static str>,
+    /// Whether the broker has a commit for part 0 at first.
+    is_stored: bool,
     /// The number of the read that fails.
     read: u64,
     /// The number of the link's call that fails before the broker has it.
@@ -95,7 +95,7 @@ const STARTS: &[u8] =
 const ROW: Row = Row {
     config: b"",
     script: TWO_LINES,
-    map: None,
+    is_stored: false,
     read: 0,
     early: 0,
     late: 0,
@@ -231,14 +231,14 @@ commit-failed 0 at 1 map = size 0\nrevoke 0 epoch 1\nassign 0 epoch 3 at 1 map =
     // The broker stores something. A commit that was stored has no map; a late failure leaves it in the
     // store, and an early one what stood there.
     Row {
-        map: Some("bAACAg=="),
+        is_stored: true,
         output: b"assign 0 epoch 1 at 7 map =bAACAg==\ncommit 0 at 7 map = size 0\n",
         events: 2,
         stored: (7, "", 0),
         ..ROW
     },
     Row {
-        map: Some("bAACAg=="),
+        is_stored: true,
         early: 2,
         output: KEPT_COMMIT_FAILED,
         events: 2,
@@ -246,7 +246,7 @@ commit-failed 0 at 1 map = size 0\nrevoke 0 epoch 1\nassign 0 epoch 3 at 1 map =
         ..ROW
     },
     Row {
-        map: Some("bAACAg=="),
+        is_stored: true,
         late: 2,
         output: KEPT_COMMIT_FAILED,
         events: 2,
@@ -297,42 +297,67 @@ commit-failed 0 at 1 map = size 0\nrevoke 0 epoch 1\nassign 0 epoch 3 at 1 map =
     },
 ];
 
-/// The broker of a topic with two parts. With a map it has a commit at 7 for part 0.
-fn broker(alloc: Global, map: Option<&str>) -> Result<OffsetBroker, Fail> {
+/// The broker of a topic with two parts, for the first of which it has a commit at 7, if that is asked.
+fn broker(alloc: Global, is_stored: bool) -> Result<OffsetBroker, Fail> {
     let mut broker = OffsetBroker::new(alloc, TOPIC, 2)?;
-    if let Some(map) = map {
-        let map = MapText::from_str(alloc, map)?;
+    if is_stored {
+        let map = MapText::from_str(alloc, "bAACAg==")?;
         broker.with(GROUP, 0, Commit { position: 7, map })?;
     }
     Ok(broker)
 }
 
-/// Plays a row into the sink.
-fn play_row(
-    alloc: Global,
-    row: Row,
-    out: &mut MemorySink,
-) -> Result<Ended<FailingLink<OffsetBroker>>, Fail> {
-    let broker = broker(alloc, row.map)?;
-    let Ok(link) = FailingLink::new(alloc, broker, &[row.early], &[row.late]) else {
-        return Err(AllocError.into());
-    };
-    Ok(play(alloc, row.config, row.script, row.read, link, out)?)
+/// What is seen of a play at its end.
+#[derive(Drop)]
+struct Seen {
+    out: MemorySink,
+    status: u8,
+    events: u64,
+    /// The commit that the broker stores for part 0, and the position of that for part 1.
+    first: Commit,
+    second: u64,
+}
+
+/// The link of a row.
+fn link(alloc: Global, row: &Row) -> Result<FailingLink<OffsetBroker>, Fail> {
+    let broker = broker(alloc, row.is_stored)?;
+    match FailingLink::new(alloc, broker, &[row.early], &[row.late]) {
+        Ok(link) => Ok(link),
+        Err(_) => Err(AllocError.into()),
+    }
+}
+
+/// Plays a row.
+fn seen_of(alloc: Global, row: &Row) -> Result<Seen, Fail> {
+    let mut out = MemorySink::new(alloc, row.room, &[row.write])?;
+    let link = link(alloc, row)?;
+    let ended = play(alloc, row.config, row.script, row.read, link, &mut out)?;
+    let (status, events) = (ended.status.number(), ended.journal.len());
+    let mut client = Client::new(alloc, ended.link.into_link());
+    let first = client.fetch(0)?;
+    let second = client.fetch(1)?.position;
+    Ok(Seen {
+        out,
+        status,
+        events,
+        first,
+        second,
+    })
 }
 
 #[test]
 fn each_fault_of_the_outside(rt: HostRuntime) -> Result<(), Fail> {
     for row in ROWS {
-        let mut out = MemorySink::new(rt.alloc(), row.room, &[row.write])?;
-        let ended = play_row(rt.alloc(), row, &mut out)?;
-        assert_eq!(rt; out.bytes(), row.output, "at {}", row.events);
-        assert_eq!(rt; ended.status.number(), row.status, "at {}", row.events);
-        assert_eq!(rt; ended.journal.len(), row.events);
-        let (position, map, second) = row.stored;
-        let mut client = Client::new(rt.alloc(), ended.link.into_link());
-        let commit = client.fetch(0)?;
-        assert_eq!(rt; (commit.position, commit.map.as_str()), (position, map));
-        assert_eq!(rt; client.fetch(1)?.position, second);
+        let seen = seen_of(rt.alloc(), &row)?;
+        let stored = (seen.first.position, seen.first.map.as_str(), seen.second);
+        assert_eq!(rt; seen.out.bytes(), row.output, "after {:?}", row.script);
+        assert_eq!(rt;
+            (seen.status, seen.events),
+            (row.status, row.events),
+            "at {:?}",
+            row.output
+        );
+        assert_eq!(rt; stored, row.stored, "at {:?}", row.output);
     }
     Ok(())
 }

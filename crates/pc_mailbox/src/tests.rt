@@ -41,6 +41,7 @@ fn result_of<'a>(
         attempt: 1,
         entry,
         rules,
+        task: &RuleTask,
     };
     match RuleTask.call(alloc, &job) {
         Ok(outcome) => Ok(job.finish(outcome)),
