@@ -1,12 +1,12 @@
 -- What an engine's type keeps after an event for which the link is not asked.
-use Rattle.std.proofs.Common.{◌≡◌, ℕ, ◌+◌, ◌≤◌, Bool, false, List, [], ◌∷◌, length, Option, None, refl, sym, subst, ◌∙◌, arith, inl, inr}
+use Rattle.std.proofs.Common.{◌≡◌, ℕ, ◌+◌, ◌≤◌, Bool, false, List, [], ◌∷◌, length, Option, None, refl, sym, subst, arith, inl, inr}
 use Rattle.std.proofs.lemmas.Bool.{cases_lt, lt-ltb}
 use Rattle.pc_model.specs.declared.commit.Commit.{Commit}
 use Rattle.pc_model.specs.declared.event.Event.{Event}
 use Rattle.pc_model.specs.declared.setup.Setup.{Setup}
 use Rattle.pc_model.specs.Record.{Record}
 use Rattle.pc_model.specs.Given.{Given}
-use Rattle.pc_model.specs.Jobs.{has_ended, is_draining, open_jobs}
+use Rattle.pc_model.specs.Jobs.{open_jobs}
 use Rattle.pc_model.specs.Known.{assigned_by}
 use Rattle.pc_model.specs.Stored.{may_store}
 use Rattle.pc_laws.specs.Lists.{In}

@@ -5,7 +5,7 @@ use Rattle.pc_model.specs.declared.event.Event.{Event}
 use Rattle.pc_model.specs.declared.setup.Setup.{Setup}
 use Rattle.pc_model.specs.Record.{Record}
 use Rattle.pc_model.specs.Given.{Given}
-use Rattle.pc_model.specs.Jobs.{has_ended, is_draining, open_jobs}
+use Rattle.pc_model.specs.Jobs.{open_jobs}
 use Rattle.pc_model.specs.Known.{assigned_by}
 use Rattle.pc_model.specs.Stored.{may_store}
 use Rattle.pc_state.specs.declared.state.State.{State}

@@ -1,5 +1,5 @@
 -- An engine as clauses see it, and what its type keeps.
-use Rattle.std.specs.Prelude.{ℕ, ◌≡◌, ◌≤◌, ◌<◌, Bool, true, false, if◌then◌else◌, List, [], ◌∷◌, map, length, Option, None, unwrap_or}
+use Rattle.std.specs.Prelude.{ℕ, ◌≡◌, ◌≤◌, ◌<◌, Bool, true, if◌then◌else◌, List, [], ◌∷◌, map, length, Option, None, unwrap_or}
 use Rattle.std.specs.List.{range_with_len}
 use Rattle.std.specs.Option.{option_or}
 use Rattle.pc_model.specs.declared.setup.Setup.{Setup}
@@ -8,7 +8,7 @@ use Rattle.pc_model.specs.declared.commit.Commit.{Commit}
 use Rattle.pc_model.specs.declared.event.Event.{Event}
 use Rattle.pc_model.specs.History.{History}
 use Rattle.pc_model.specs.Given.{Given}
-use Rattle.pc_model.specs.Jobs.{has_ended, is_draining, open_jobs}
+use Rattle.pc_model.specs.Jobs.{open_jobs}
 use Rattle.pc_model.specs.Stored.{may_store}
 use Rattle.pc_model.specs.Known.{assigned_by}
 use Rattle.pc_model.specs.Record.{Record}

@@ -1,5 +1,5 @@
 -- What the call of a line makes of a history and of the jobs in hand.
-use Rattle.std.proofs.Common.{◌≡◌, ◌≤◌, ℕ, Bool, true, false, ◌&&◌, ◌==◌, inl, inr, List, ◌∷◌, ◌++◌, Option, Some, None, Result, Ok, Err, refl, ap, sym, subst, ◌∙◌, arith, true≢false}
+use Rattle.std.proofs.Common.{◌≡◌, ◌≤◌, ℕ, Bool, true, false, ◌&&◌, ◌==◌, inl, inr, List, ◌∷◌, ◌++◌, Option, Some, None, Result, Ok, Err, refl, ap, sym, subst, ◌∙◌, true≢false}
 use Rattle.std.specs.Prelude.{IfOk, IsErr, MatchResult, OnErr}
 use Rattle.std.proofs.lemmas.Bool.{cases_Bool}
 use Rattle.pc_model.specs.declared.commit.Commit.{Commit as StoredCommit}
@@ -31,7 +31,7 @@ use Rattle.pc_play.specs.declared.hand.Hand.{Hand}
 use Rattle.pc_play.specs.declared.remark.Notice.{Notice}
 use Rattle.pc_play.specs.declared.remark.Notice.TheVariants.{Refused, Stranger}
 use Rattle.pc_play.specs.Hand.{AreIn, HasInHand, job_with, without}
-use Rattle.pc_play.specs.Play.{Asked, Breaks, Calls, Fetches, IsAborted, Makes, Moment, Stores, Unless, call_notice, done_by, end_job, end_step, hand_after, poll_notice, settled_notice, take_notice, tick_notice}
+use Rattle.pc_play.specs.Play.{Asked, Breaks, Calls, Fetches, Makes, Moment, Stores, Unless, call_notice, done_by, end_job, end_step, hand_after, poll_notice, settled_notice, take_notice, tick_notice}
 use Rattle.pc_play.proofs.NoLine.{aborted-same}
 use Rattle.pc_play.proofs.HandLemmas.{Expects, assign-expects, commit-expects, crash-expects, end-expects, job_with-but, job_with-is, lose-expects, poll-expects, revoke-expects, take-expects, tick-expects}
 

@@ -1,17 +1,11 @@
 -- What a line's call does to a play, and what lines do one after the other.
 use Rattle.std.proofs.Common.{◌≡◌, ◌<◌, inl, inr, ℕ, ◌+◌, Bool, true, false, List, [], ◌∷◌, ◌++◌, length, take, get_or, Option, None, refl, ap, sym, subst, ◌∙◌, arith, zero, suc, add-one}
-use Rattle.std.specs.Prelude.{IsErr, IsTrue, OnErr, Result, Ok, Err, is_none}
-use Rattle.std.proofs.Math.Bool.{Bool-set}
+use Rattle.std.specs.Prelude.{IsErr, OnErr, Result, Ok, Err}
 use Rattle.std.proofs.lemmas.List.{append-nil}
 use Rattle.std.proofs.Math.Seq.{take-suc}
 use Rattle.pc_laws.proofs.Lists.{true-not-false}
 use Rattle.pc_model.specs.declared.event.Event.{Event}
-use Rattle.pc_model.specs.Record.{Record}
-use Rattle.pc_model.specs.declared.setup.Settings.{Settings}
-use Rattle.pc_model.specs.declared.setup.Setup.{Setup}
-use Rattle.pc_model.specs.Defaults.{default_settings}
 use Rattle.pc_model.specs.Given.{Given, has_log}
-use Rattle.pc_model.specs.Ranges.{settings_fault}
 use Rattle.pc_model.specs.Lawful.{IsLegal}
 use Rattle.pc_model.specs.Stored.{may_store}
 use Rattle.pc_laws.specs.Lists.{In}
@@ -19,9 +13,6 @@ use Rattle.pc_script.specs.declared.play.PlayLine.{PlayLine}
 use Rattle.pc_offset_client.specs.Client.{kept_for}
 use Rattle.pc_model.specs.Broker.{Broker}
 use Rattle.pc_engine.specs.Effect.{StoresOnly}
-use Rattle.pc_engine.specs.Engine.{given_by}
-use Rattle.pc_engine.proofs.EngineLemmas.{start_of-given_by, stores_only-same}
-use Rattle.pc_state.proofs.PartEvents.{log-below}
 use Rattle.pc_play.specs.declared.remark.Remark.{Remark}
 use Rattle.pc_play.specs.declared.remark.Notice.{Notice}
 use Rattle.pc_play.specs.declared.hand.Hand.{Hand}

@@ -42,7 +42,7 @@ returns-in-Good-clause-keeps g c = record {
       (g.T.Task.outcome c.self.inside.task.now) (kept_for (g.L.Link.store c.self.inside.client.link)) c.self.inside.journal.room
       c.push.new.self.room c.self.invariant (finished_job c.args.done)
       (rw (← c.self.view_is) at c.requires.expected) c.push.ensures.room (rw (← c.self.view_is) at c.requires.runs)
-    (rw (← c.self.view_is) at c.requires.current) c.in-Good.answer c.args.done.outcome
+      (rw (← c.self.view_is) at c.requires.current) c.in-Good.answer c.args.done.outcome
       (due-same _ _ (finished_job c.args.done) _ (rw (← c.self.view_is) at c.requires.same) c.args.done.by_task) c.in-Good.is c.succeed.ensures c.push.ensures.events
       ∙ ap (λ v. given_of g.T.Task.outcome v) c.self.view_is;
   task = ap (λ v. v.task) c.self.view_is;
@@ -68,7 +68,7 @@ returns-in-Bad-clause-keeps g c = record {
       (g.T.Task.outcome c.self.inside.task.now) (kept_for (g.L.Link.store c.self.inside.client.link)) c.self.inside.journal.room
       c.push-in-Bad.new.self.room c.self.invariant (finished_job c.args.done)
       (rw (← c.self.view_is) at c.requires.expected) c.push-in-Bad.ensures.room (rw (← c.self.view_is) at c.requires.runs)
-    (rw (← c.self.view_is) at c.requires.current) c.in-Bad.code c.ready_after-ready_at.result
+      (rw (← c.self.view_is) at c.requires.current) c.in-Bad.code c.ready_after-ready_at.result
       c.args.done.outcome (due-same _ _ (finished_job c.args.done) _ (rw (← c.self.view_is) at c.requires.same) c.args.done.by_task) c.in-Bad.is
       (c.ready_after-ready_at.ensures ∙ ap (λ (ds : List ℕ). ready_after ds c.args.done.attempt
       c.self.inside.state.clock) c.as_slice-delays.ensures)

@@ -20,7 +20,7 @@ poll-requires-clause-held g c =
     (g.L.Link.is_told c.self.inside.client.link) (g.T.Task.outcome c.self.inside.task.now) (kept_for (g.L.Link.store c.self.inside.client.link)))
     c.self.inside.journal.events c.args.part inner).held in (
       (given_to c.self.inside.state c.self.inside.journal.events
-    (g.L.Link.is_told c.self.inside.client.link) (g.T.Task.outcome c.self.inside.task.now) (kept_for (g.L.Link.store c.self.inside.client.link))),
+          (g.L.Link.is_told c.self.inside.client.link) (g.T.Task.outcome c.self.inside.task.now) (kept_for (g.L.Link.store c.self.inside.client.link))),
       c.self.inside.journal.events,
       c.self.invariant.knows,
       held,
@@ -120,16 +120,16 @@ returns-clause-keeps g c =
     c.self.inside.journal.events c.self.invariant.knows held in
     record {
       given = polled-given c.self.inside.state c.self.inside.journal.events
-    (g.L.Link.is_told c.self.inside.client.link) (g.T.Task.outcome c.self.inside.task.now) (kept_for (g.L.Link.store c.self.inside.client.link))
-    c.self.inside.journal.room c.self.invariant c.args.part c.args.max c.in-Some.first inner
-    c.requires.some left free c.poll.new.self c.reserve.new.self.events
-    c.push.new.self.events c.reserve.new.self.room c.push.new.self.room c.outstanding.result
-    c.in_ok-taken.taken.count c.in_ok-taken.taken.last _ room_left taken.count
-    (c.in_ok-taken.ensures.polled (given_to c.self.inside.state c.self.inside.journal.events
-    (g.L.Link.is_told c.self.inside.client.link) (g.T.Task.outcome c.self.inside.task.now) (kept_for (g.L.Link.store c.self.inside.client.link))) c.self.inside.journal.events c.self.invariant.knows held)
-    taken.last c.in_ok-reserve.ensures.events c.push.ensures.events
-    (c.outstanding.ensures _ _ c.self.invariant.knows) c.in_ok-reserve.ensures.room c.push.ensures.room
-    ∙ ap (λ v. given_of g.T.Task.outcome v) c.self.view_is;
+          (g.L.Link.is_told c.self.inside.client.link) (g.T.Task.outcome c.self.inside.task.now) (kept_for (g.L.Link.store c.self.inside.client.link))
+          c.self.inside.journal.room c.self.invariant c.args.part c.args.max c.in-Some.first inner
+          c.requires.some left free c.poll.new.self c.reserve.new.self.events
+          c.push.new.self.events c.reserve.new.self.room c.push.new.self.room c.outstanding.result
+          c.in_ok-taken.taken.count c.in_ok-taken.taken.last _ room_left taken.count
+          (c.in_ok-taken.ensures.polled (given_to c.self.inside.state c.self.inside.journal.events
+          (g.L.Link.is_told c.self.inside.client.link) (g.T.Task.outcome c.self.inside.task.now) (kept_for (g.L.Link.store c.self.inside.client.link))) c.self.inside.journal.events c.self.invariant.knows held)
+          taken.last c.in_ok-reserve.ensures.events c.push.ensures.events
+          (c.outstanding.ensures _ _ c.self.invariant.knows) c.in_ok-reserve.ensures.room c.push.ensures.room
+          ∙ ap (λ v. given_of g.T.Task.outcome v) c.self.view_is;
       task = ap (λ v. v.task) c.self.view_is;
       link = ap (λ v. v.link) c.self.view_is;
     }
