@@ -21,9 +21,16 @@ pub(crate) struct Ticks<'a> {
 
 impl Shown for Ticks<'_> {
     ghost use Rattle.std.specs.Prelude.{[], false};
+    ghost use Rattle.pc_model.specs.Outcomes.{outcome_of};
 
     ghost heading = { λ t. record {
-      given = record { setup = t.setup.now; logs = []; start = []; is_told = false };
+      given = record {
+        setup = t.setup.now;
+        logs = [];
+        start = [];
+        is_told = false;
+        outcome = outcome_of t.setup.now.settings.rules;
+      };
       store = record { topic = []; parts = 0; commits = []; memberships = [] };
       steps = [];
       workers = 0;
