@@ -64,6 +64,7 @@ fn a_record_fails_as_often_as_its_first_rule_says(rt: HostRuntime) -> Result<(),
         fails: FailRules::from_slice(rt.alloc(), &[rule(1, 9), rule(0, 2), rule(0, 9)])?,
     };
     let batch = read_batch(&THREE_RECORDS, 0).map_err(|_| AllocError)?;
+    let task = RuleTask;
     for (attempt, answer) in ATTEMPTS {
         let mut records = batch.records();
         let _first = records.next();
@@ -78,9 +79,9 @@ fn a_record_fails_as_often_as_its_first_rule_says(rt: HostRuntime) -> Result<(),
             attempt,
             entry,
             rules: &rules,
-            task: &RuleTask,
+            task: &task,
         };
-        match RuleTask.call(rt.alloc(), &job) {
+        match task.call(rt.alloc(), &job) {
             Ok(outcome) => {
                 let done = job.finish(outcome).copy(rt.alloc())?;
                 let got = match &done.outcome {
