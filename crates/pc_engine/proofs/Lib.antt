@@ -2,6 +2,7 @@ pub mod EngineEvents
 pub mod EngineStep
 pub mod EngineTake
 pub mod EngineTick
+mod EngineEnding
 pub mod EngineSettle
 pub mod EngineRelease
 pub mod EngineRevoke

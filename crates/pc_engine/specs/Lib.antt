@@ -1,3 +1,4 @@
 pub mod Fault
 pub mod Effect
 pub mod Engine
+pub mod Ending

@@ -6,6 +6,7 @@ ghost use Rattle.pc_engine.specs.declared.fault.EngineFault.TheVariants.{NoMemor
 use pc_commit::ResumeFault;
 use pc_model::MapFault;
 use pc_offset_client::ClientFault;
+use pc_state::Unfinished;
 use std::alloc::{AllocError, AllocFailed};
 
 /// Why the engine refused a call. After a refusal all is as before, but for a failed commit.
@@ -86,6 +87,27 @@ impl From<ResumeFault> for EngineFault {
         match fault {
             ResumeFault::BadMap(fault) => EngineFault::BadMap(fault),
             ResumeFault::NoMemory => EngineFault::NoMemory,
+        }
+    }
+}
+
+impl From<Unfinished> for EngineFault {
+    ghost use Rattle.pc_engine.specs.Fault.{unfinished_fault};
+
+    ghost from_gives = { λ reason e. e ≡ unfinished_fault reason };
+
+    fn from(reason: Unfinished) -> EngineFault {
+        match reason {
+            Unfinished::NotDone { part, offset } => EngineFault::NotDone { part, offset },
+            Unfinished::Uncommitted {
+                part,
+                stored,
+                position,
+            } => EngineFault::Uncommitted {
+                part,
+                stored,
+                position,
+            },
         }
     }
 }

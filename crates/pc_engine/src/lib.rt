@@ -4,6 +4,7 @@
 #![tactic(auto)]
 
 mod clock;
+mod ending;
 mod engine;
 mod epochs;
 mod fault;

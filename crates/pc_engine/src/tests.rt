@@ -48,6 +48,9 @@ enum Call {
     Revoke(u32),
     Lose(u32),
     Crash,
+    Drain,
+    Finish,
+    Close,
 }
 
 /// Replies by their correlation ids: nothing is stored for part 0; its commit is stored; two calls
@@ -66,7 +69,7 @@ const REPLIES: [&[u8]; 9] = [
 ];
 
 /// The calls over two parts, and what each answers.
-const CALLS: [(Call, Result<(), EngineFault>); 19] = [
+const CALLS: [(Call, Result<(), EngineFault>); 25] = [
     (Call::Assign(2), Err(EngineFault::UnknownPart)),
     (Call::Lose(2), Err(EngineFault::UnknownPart)),
     (Call::Revoke(0), Err(EngineFault::NotHeld)),
@@ -98,6 +101,12 @@ const CALLS: [(Call, Result<(), EngineFault>); 19] = [
     ),
     (Call::Crash, Ok(())),
     (Call::Assign(0), Err(EngineFault::NoMemory)),
+    (Call::Drain, Ok(())),
+    (Call::Drain, Err(EngineFault::Draining)),
+    (Call::Assign(0), Err(EngineFault::Draining)),
+    (Call::Finish, Ok(())),
+    (Call::Close, Err(EngineFault::Closed)),
+    (Call::Crash, Err(EngineFault::Closed)),
 ];
 
 fn answer(engine: &mut Engine<'_, Scripted>, call: Call) -> Result<(), EngineFault> {
@@ -113,6 +122,9 @@ fn answer(engine: &mut Engine<'_, Scripted>, call: Call) -> Result<(), EngineFau
         },
         Call::Lose(part) => engine.lose(part),
         Call::Crash => engine.crash(),
+        Call::Drain => engine.begin_drain(),
+        Call::Finish => engine.finish(),
+        Call::Close => engine.close(),
     }
 }
 
@@ -125,6 +137,8 @@ fn name(event: &Event) -> &'static str {
         Event::Revoke { .. } => "revoke",
         Event::Lost { .. } => "lost",
         Event::Crash => "crash",
+        Event::Drain => "drain",
+        Event::Done => "done",
         _ => "another",
     }
 }
@@ -147,7 +161,7 @@ fn empty_logs<'a>(alloc: Global) -> Result<BrokerLogs<'a>, AllocError> {
 fn answers(
     alloc: Global,
     logs: &BrokerLogs<'_>,
-) -> Result<([Result<(), EngineFault>; 19], Journal), AllocError> {
+) -> Result<([Result<(), EngineFault>; 25], Journal), AllocError> {
     let setup = Setup::with_defaults(alloc)?;
     let link = Scripted {
         alloc,
@@ -157,8 +171,8 @@ fn answers(
     let Ok(mut engine) = Engine::start(alloc, &setup, logs, link) else {
         return Err(AllocError);
     };
-    let mut answers = [Ok(()); 19];
-    for i in 0..19 {
+    let mut answers = [Ok(()); 25];
+    for i in 0..25 {
         answers[i] = answer(&mut engine, CALLS[i].0);
     }
     Ok((answers, engine.into_parts().0))
@@ -168,7 +182,7 @@ fn answers(
 fn refusals_add_nothing(rt: HostRuntime) -> Result<(), Fail> {
     let logs = empty_logs(rt.alloc())?;
     let (answers, journal) = answers(rt.alloc(), &logs)?;
-    for i in 0..19 {
+    for i in 0..25 {
         let (call, wanted) = CALLS[i];
         assert_eq!(rt; answers[i], wanted, "at {call:?}");
     }
@@ -185,9 +199,11 @@ fn refusals_add_nothing(rt: HostRuntime) -> Result<(), Fail> {
         "commit-failed",
         "revoke",
         "crash",
+        "drain",
+        "done",
     ];
-    assert_eq!(rt; journal.len(), 12);
-    for i in 0..12 {
+    assert_eq!(rt; journal.len(), 14);
+    for i in 0..14 {
         assert_eq!(rt; journal.get(i as u64).map(name), Some(events[i]));
     }
     Ok(())

@@ -1,7 +1,7 @@
 //! The shards. Clauses see the order, and the entries of each part in the order in which they were
 //! added.
 
-ghost use Rattle.std.specs.Prelude.{◌≡◌, ℕ, ◌+◌, ◌<◌, ◌^◌, ◌++◌, ◌∷◌, [], false, true, OnErr, OnOk, ◌-◌, length, option_map, take};
+ghost use Rattle.std.specs.Prelude.{◌≡◌, ℕ, ◌+◌, ◌<◌, ◌^◌, ◌++◌, ◌∷◌, [], false, true, OnErr, OnOk, ◌-◌, length, option_map, slice_get, take};
 ghost use Rattle.std.specs.List.{All};
 ghost use Rattle.std.specs.Option.{option_copied};
 ghost use Rattle.pc_batch.specs.Record.{plain};
@@ -108,6 +108,14 @@ impl<'a> Shards<'a> {
         ensures { option_map plain_entry result ≡ entry_at offset (of_part self.now part) }
     {
         self.parts.as_slice().get(part as usize)?.entry(offset)
+    }
+
+    /// The first entry of the part, which has its least offset.
+    pub fn first(&self, part: u32) -> Option<EntryRef<'a>>
+        ensures { option_map plain_entry result ≡ slice_get (of_part self.now part) 0 }
+    {
+        let state = self.parts.as_slice().get(part as usize)?;
+        state.entries.front().copied()
     }
 
     /// The least offset of the part that is the first of its ordering key and not busy. Of an

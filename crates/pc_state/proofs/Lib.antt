@@ -1,6 +1,8 @@
 pub mod StateLemmas
 mod LedgerLemmas
 mod PhaseLemmas
+mod StoredLemmas
+mod UnfinishedLemmas
 mod AddLemmas
 pub mod RetryLemmas
 pub mod PolledLemmas

@@ -3,3 +3,4 @@ pub mod Ledger
 pub mod Calls
 pub mod Polls
 pub mod State
+pub mod Queries
