@@ -22,3 +22,4 @@ pub mod RunsAt
 pub mod Tables
 pub mod BitAtLemmas
 pub mod BrokerLaws
+mod RunRowsPaced

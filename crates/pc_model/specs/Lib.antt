@@ -26,3 +26,7 @@ pub mod OneMore
 pub mod Messages
 pub mod MessageReading
 pub mod Broker
+pub mod Steps
+pub mod Pace
+pub mod Bound
+pub mod RunRows

@@ -17,6 +17,7 @@ mod map_fault;
 mod map_letter;
 mod outcome;
 mod setup;
+mod step;
 mod texts;
 mod wire_fault;
 
@@ -31,6 +32,7 @@ pub use map_fault::MapFault;
 pub use map_letter::{BITSET, BITSET_2, RUN_LENGTH, RUN_LENGTH_2};
 pub use outcome::{FailRule, Outcome, Rules, Start};
 pub use setup::{Settings, Setup, SetupFault, SetupField};
+pub use step::{Act, Step};
 pub use texts::{KeyText, MapText, NameText};
 pub use wire_fault::WireFault;
 

@@ -6,9 +6,9 @@ use Rattle.std.proofs.lemmas.List.Sums.{fold_push}
 use Rattle.pc_lines.specs.Pieces.{lines_of, words_of}
 use Rattle.pc_script.specs.declared.fault.ScriptFault.{ScriptFault}
 use Rattle.pc_script.specs.declared.fault.ScriptKind.{ScriptKind}
-use Rattle.pc_script.specs.declared.step.Act.{Act}
-use Rattle.pc_script.specs.declared.step.Act.TheVariants.{Assign, Revoke, Lose, Crash}
-use Rattle.pc_script.specs.declared.step.Step.{Step}
+use Rattle.pc_model.specs.declared.step.Act.{Act}
+use Rattle.pc_model.specs.declared.step.Act.TheVariants.{Assign, Revoke, Lose, Crash}
+use Rattle.pc_model.specs.declared.step.Step.{Step}
 use Rattle.pc_script.specs.declared.step_word.StepWord.{StepWord}
 use Rattle.pc_script.specs.declared.step_word.StepWord.TheVariants as word
 use Rattle.pc_script.specs.Arguments.{◌>>=◌, part_of, no_word_of, one_word_of, is_skipped}

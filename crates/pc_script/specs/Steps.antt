@@ -9,9 +9,9 @@ use Rattle.pc_script.specs.declared.fault.ScriptKind.{ScriptKind}
 use Rattle.pc_script.specs.declared.fault.ScriptKind.TheVariants.{UnknownWord, WordCount, UnknownPart, AlreadyHeld, NotHeld}
 use Rattle.pc_script.specs.declared.fault.ScriptReadFault.{ScriptReadFault}
 use Rattle.pc_script.specs.declared.fault.ScriptReadFault.TheVariants as read
-use Rattle.pc_script.specs.declared.step.Act.{Act}
-use Rattle.pc_script.specs.declared.step.Act.TheVariants.{Assign, Revoke, Lose, Crash}
-use Rattle.pc_script.specs.declared.step.Step.{Step}
+use Rattle.pc_model.specs.declared.step.Act.{Act}
+use Rattle.pc_model.specs.declared.step.Act.TheVariants.{Assign, Revoke, Lose, Crash}
+use Rattle.pc_model.specs.declared.step.Step.{Step}
 use Rattle.pc_script.specs.declared.step_word.StepWord.{StepWord}
 use Rattle.pc_script.specs.declared.step_word.StepWord.TheVariants as word
 use Rattle.pc_script.specs.Arguments.{◌>>=◌, argument_of, part_of, no_word_of, one_word_of, is_skipped}

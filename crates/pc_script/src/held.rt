@@ -2,11 +2,12 @@
 
 ghost use Rattle.std.specs.Prelude.{◌≡◌, ℕ, ◌<◌, List, [], false, slice_index_or, if◌then◌else◌, nat_lt, Ok, Err, IfOk};
 ghost use Rattle.pc_script.specs.Steps.{allowed_of, held_after, step_at, step_of, IsAct, IsStep, Mirrors};
-ghost use Rattle.pc_script.specs.declared.step.Step.{Step};
+ghost use Rattle.pc_model.specs.declared.step.Step.{Step};
 
 use crate::fault::{ScriptFault, ScriptKind};
-use crate::step::{Act, Step, written_step};
+use crate::step::written_step;
 use pc_model::limits::MAX_PARTS;
+use pc_model::{Act, Step};
 
 /// One more than the greatest part that a script may name.
 const PARTS: usize = MAX_PARTS as usize;

@@ -4,7 +4,7 @@ ghost use Rattle.std.specs.Prelude.{◌≡◌, ℕ, List, [], Ok};
 ghost use Rattle.pc_script.specs.PlayScript.{ArePlayable, script_of};
 ghost use Rattle.pc_script.specs.Steps.{AreAllowed, AreSteps, steps_of};
 ghost use Rattle.pc_script.specs.declared.play.PlayLine.{PlayLine};
-ghost use Rattle.pc_script.specs.declared.step.Step.{Step};
+ghost use Rattle.pc_model.specs.declared.step.Step.{Step};
 
 /// What a play script asks for is in the ranges of its calls.
 pub fn every_act_is_playable()

@@ -14,9 +14,9 @@ mod steps;
 
 pub use fault::{ScriptFault, ScriptKind, ScriptReadFault};
 pub use laws::{every_act_is_playable, every_step_is_allowed, every_step_is_in_range};
+pub use pc_model::{Act, Step};
 pub use play::{PlayAct, PlayLine};
 pub use play_script::{PlayScript, read_play};
-pub use step::{Act, Step};
 pub use steps::{Steps, read_steps};
 
 #[cfg(test)]

@@ -9,27 +9,7 @@ use crate::fault::ScriptKind;
 use crate::step_word::{StepWord, step_word};
 use pc_lines::{Words, words};
 use pc_model::limits::MAX_EVENTS;
-
-/// What moves. Parts are below 1,024.
-#[derive(Clone, Copy, Debug, PartialEq, Eq)]
-pub enum Act {
-    /// A part is assigned.
-    Assign(u32),
-    /// A part is given back after a commit.
-    Revoke(u32),
-    /// A part is lost without a commit.
-    Lose(u32),
-    /// All is forgotten but the journal, and the parts that were held are assigned anew.
-    Crash,
-}
-
-/// An act, once so many records have succeeded.
-#[derive(Clone, Copy, Debug, PartialEq, Eq)]
-pub struct Step {
-    /// The number of successes, at most 4,000,000.
-    pub count: u64,
-    pub act: Act,
-}
+use pc_model::{Act, Step};
 
 /// The step that a line writes, whatever parts there are.
 #[tactic(auto, using(crate::proofs::StepsLemmas::behind_at_in_range))]

@@ -9,8 +9,8 @@ ghost use Rattle.pc_script.specs.Steps.{steps_of, steps_behind, or_bad_step};
 use crate::argument::{check_size, is_skipped};
 use crate::fault::ScriptReadFault;
 use crate::held::Held;
-use crate::step::Step;
 use pc_lines::lines;
+use pc_model::Step;
 use pc_model::limits::MAX_SCRIPT_LINES;
 use std::alloc::Global;
 use std::marker::Model;
@@ -24,7 +24,7 @@ pub struct Steps {
 impl Model for Steps {
     ghost use Rattle.std.specs.Prelude.{List};
     ghost use Rattle.pc_script.specs.Steps.{AreSteps};
-    ghost use Rattle.pc_script.specs.declared.step.Step.{Step};
+    ghost use Rattle.pc_model.specs.declared.step.Step.{Step};
 
     ghost Value = { List Step };
 

@@ -2,7 +2,7 @@
 use Rattle.std.proofs.Common.{◌≡◌, ℕ, ◌+◌, List, length, Result, Ok, Err, ap, ◌∙◌, sym, arith}
 use Rattle.std.proofs.lemmas.Result.{err_from_is_err_and}
 use Rattle.pc_script.specs.declared.fault.ScriptFault.{ScriptFault}
-use Rattle.pc_script.specs.declared.step.Step.{Step}
+use Rattle.pc_model.specs.declared.step.Step.{Step}
 use Rattle.pc_script.specs.Steps.{step_at, step_of, or_bad_step}
 use Rattle.pc_script.proofs.StepsLemmas.{Mirrors-push, steps_behind-skipped, steps_behind-read, steps_behind-bad, steps_behind-end}
 use Rattle.pc_script.proofs.steps.read_lines.Goals as goal
