@@ -11,7 +11,7 @@ use Rattle.pc_model.specs.Stored.{may_store}
 use Rattle.pc_laws.specs.Lists.{In}
 use Rattle.pc_offset_client.specs.Client.{kept_for}
 use Rattle.pc_engine.specs.Engine.{EngineView, given_by, given_of}
-use Rattle.own_task.specs.declared.doubled.Doubled.{Doubled}
+use Rattle.own_task.specs.declared.Doubled.{Doubled}
 use Rattle.own_task.specs.Doubled.{outcome_of}
 
 -- what a run is given: the setup, the logs, what the broker stores, and the outcomes of `Doubled`
