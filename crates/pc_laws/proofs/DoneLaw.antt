@@ -20,13 +20,13 @@ use Rattle.pc_laws.proofs.Passing.{In-incomplete}
 use Rattle.pc_laws.proofs.Position.{take-drop-In}
 use Rattle.pc_laws.proofs.PositionLaw.{known_by, is_position_of, position_of-begin_le}
 
-In-range : (a n i x : ℕ) → a + i ≡ x → i < n → In x (range_with_len a n)
+pub In-range : (a n i x : ℕ) → a + i ≡ x → i < n → In x (range_with_len a n)
 In-range a zero i x is lt = absurd (omega arith)
 In-range a (suc n) zero x is lt = let same : x ≡ a = omega arith in inl same
 In-range a (suc n) (suc i) x is lt = let next : (a + 1) + i ≡ x = omega arith in inr
     (In-range (a + 1) n i x next (omega arith))
 
-no-log : (given : Given) (p : ℕ) → length given.logs ≤ p → records_of given p ≡ []
+pub no-log : (given : Given) (p : ℕ) → length given.logs ≤ p → records_of given p ≡ []
 no-log given p past = ap (λ o. unwrap_or (option_flatten o) []) (slice_get_past given.logs p past)
 
 is_nil-true : {X : Type 0} (xs : List X) (x : X) → is_nil xs ≡ true → In x xs → ⊥

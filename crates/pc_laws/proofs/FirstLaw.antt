@@ -1,7 +1,7 @@
 -- A current job that is out has the first record of its ordering key that is left; so the key of
 -- such a record is busy exactly where a job is out at its offset.
 use Rattle.std.proofs.Common.{◌≡◌, ℕ, ◌<◌, nat_lt, true, false, not, ◌&&◌, ◌||◌, ◌==◌, List, [], ◌∷◌, take, Some, refl, ap, sym, subst, ◌∙◌, arith, inl, inr, eq-eqb}
-use Rattle.std.specs.List.{list_all, list_any}
+use Rattle.std.specs.List.{list_any}
 use Rattle.std.specs.Cmp.Derive.{both_true}
 use Rattle.std.proofs.lemmas.Bool.{cases_Bool, cases_lt, eqb-true, lt-ltb, ltb-true}
 use Rattle.pc_model.specs.declared.choices.Order.{Order}

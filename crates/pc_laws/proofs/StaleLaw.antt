@@ -56,7 +56,7 @@ job_of-In given (v ∷ h) legal j i = job_of-In given h legal.2 j i
 -- ---- a stale result
 
 module _ (given : Given) (h : List Event) (t : ℕ) (legal : IsLegal given (Stale t ∷ h)) where
-  same_part-stale : (p : ℕ) → SamePart given p h (Stale t ∷ h)
+  pub same_part-stale : (p : ℕ) → SamePart given p h (Stale t ∷ h)
   same_part-stale p = other_part given p (Stale t) h refl
 
   -- the job that it settles is not current

@@ -1,30 +1,27 @@
 -- No stall: a held part with work left goes on.
 use Rattle.std.proofs.Common.{◌≡◌, ◌⊎◌, ℕ, suc, ◌+◌, ◌-◌, ◌*◌, ◌≤◌, ◌<◌, Bool, true, false, not, ◌&&◌, ◌||◌, ◌==◌, List, [], ◌∷◌, take, drop, length, Option, Some, None, refl, ap, sym, subst, ◌∙◌, arith, inl, inr, eq-eqb, min}
-use Rattle.std.specs.Prelude.{nat_le, nat_lt, slice_get, option_map, is_none}
+use Rattle.std.specs.Prelude.{nat_le, nat_lt, slice_get, option_map}
 use Rattle.std.specs.List.{list_any, list_all}
-use Rattle.std.specs.Option.{option_map_or, option_or}
+use Rattle.std.specs.Option.{option_map_or}
 use Rattle.std.proofs.Math.Bool.{or-true}
-use Rattle.std.proofs.lemmas.Bool.{cases_Bool, cases_lt, eqb-true, leb-true, ltb-true, le-leb, lt-ltb}
+use Rattle.std.proofs.lemmas.Bool.{cases_Bool, cases_lt, eqb-true, ltb-true, le-leb, lt-ltb}
 use Rattle.pc_model.specs.declared.choices.Order.{Order}
 use Rattle.pc_model.specs.declared.choices.Order.TheVariants.{None as NoOrder, Partition, Key}
 use Rattle.pc_model.specs.declared.event.Event.{Event}
 use Rattle.pc_model.specs.declared.setup.Setup.{Setup}
 use Rattle.pc_model.specs.Record.{Record}
 use Rattle.pc_model.proofs.SetupLaws.{setup-within}
-use Rattle.pc_model.specs.declared.setup.SetupField.{SetupField}
-use Rattle.pc_model.specs.declared.setup.SetupField.TheVariants.{MapLimit, PressPercent, GiveUp, Buffer, PollMax, CommitEvery}
-use Rattle.pc_model.specs.declared.setup.SetupFault.{SetupFault}
 use Rattle.pc_model.specs.BestMap.{best_map, is_pressed}
 use Rattle.pc_model.specs.Given.{Given, record_at}
 use Rattle.pc_model.specs.Jobs.{Job, is_draining, open_jobs}
 use Rattle.pc_model.specs.Epochs.{epoch_of, is_held, is_current}
 use Rattle.pc_model.specs.Marks.{Mark, high_at, position_at, bits_at, commit_at}
-use Rattle.pc_model.specs.Known.{begin_of, polled_count, records_from_begin, polled_records, unpolled_records, is_complete, marks_of, high_of, position_of, commit_of}
+use Rattle.pc_model.specs.Known.{begin_of, polled_count, records_from_begin, polled_records, unpolled_records, is_complete, marks_of, high_of, position_of}
 use Rattle.pc_model.specs.Pressure.{last_size, is_blocked, is_below_high, is_upto_high}
 use Rattle.pc_model.specs.Retry.{now_of, failures_of, ready_of}
 use Rattle.pc_model.specs.Next.{ordering_key, same_key, has_key, is_busy, is_before, is_first, is_eligible_record, eligible_offsets}
 use Rattle.pc_model.specs.Lawful.{IsLegal}
-use Rattle.pc_model.specs.Run.{open_records, may_poll_next, poll_number, new_successes, is_spent}
+use Rattle.pc_model.specs.Run.{is_commit_due, open_records, may_poll_next, poll_number, new_successes, is_spent}
 use Rattle.pc_laws.specs.Lists.{In}
 use Rattle.pc_laws.specs.Stall.{HasWork, IsLeastOpen, GoesOn}
 use Rattle.pc_laws.specs.Stall.GoesOn.{JobIsOut, IsEligible, Waits, PollIsOpen, CommitIsDue, IsSpent}
@@ -38,7 +35,7 @@ some-record : (q u : Record) → ◌≡◌ {A = Option Record} (Some q) (Some u)
 some-record q u e = cc
 
 -- the first of a rising list is the least
-first-le-of : (rs : List Record) (n : ℕ) (u r : Record) → Rises n rs → slice_get rs 0 ≡ Some u →
+pub first-le-of : (rs : List Record) (n : ℕ) (u r : Record) → Rises n rs → slice_get rs 0 ≡ Some u →
     In r rs → u.offset ≤ r.offset
 first-le-of [] n u r rises first i = absurd i
 first-le-of (q ∷ qs) n u r rises first (inl same) =
@@ -91,7 +88,7 @@ least-record r (t ∷ ts) =
     ]
 
 -- the least of records of which there is one
-least-of-some : (rs : List Record) (r : Record) → In r rs →
+pub least-of-some : (rs : List Record) (r : Record) → In r rs →
     (s : Record) × In s rs × ((q : Record) → In q rs → s.offset ≤ q.offset)
 least-of-some [] r i = absurd i
 least-of-some (t ∷ ts) r i = least-record t ts
@@ -115,22 +112,23 @@ pub size-none : (limit b : ℕ) (marks : List Mark) → bits_at b marks ≡ [] �
 unfolding commit_at best_map
 size-none limit b marks none = rw none refl
 
-commit-frees : (given : Given) (h : List Event) (p : ℕ) → IsLegal given h → is_held h p ≡ true →
+-- a blocked part whose high lies below its position has a commit due
+pub commit-is-due : (given : Given) (h : List Event) (p : ℕ) → IsLegal given h → is_held h p ≡ true →
     is_blocked given h p ≡ true
-    → ((g : ℕ) → high_of given h p ≡ Some g → g < position_of given h p) → GoesOn given h p
-commit-frees given h p legal held blocked above =
-    let size : (commit_of given h p).size ≡ 0 = size-none given.setup.settings.map_limit (begin_of h p)
-    (marks_of given h p) (bits-none (begin_of h p) (marks_of given h p) above) in
+    → ((g : ℕ) → high_of given h p ≡ Some g → g < position_of given h p)
+    → is_commit_due given h p ≡ true
+commit-is-due given h p legal held blocked above =
     elim (option_cases (last_size h p)) [
       | inl none ↦ let nothing = rw none at blocked in cc nothing
       | inr last ↦ elim (cases_lt 0 (new_successes h p (epoch_of h p))) [
-        | inl some ↦ CommitIsDue blocked
-            (rw (held, blocked, lt-ltb 0 (new_successes h p (epoch_of h p)) some)
-            (or-true (nat_le given.setup.settings.commit_every (new_successes h p (epoch_of h p))))) size
+        | inl some ↦ rw (held, blocked, lt-ltb 0 (new_successes h p (epoch_of h p)) some)
+            (or-true (nat_le given.setup.settings.commit_every (new_successes h p (epoch_of h p))))
         | inr no_new ↦
             let zero_new : new_successes h p (epoch_of h p) ≡ 0 = omega arith in
             let last_is : last.0 ≡ 0 = sym
-            (keeps_size given h p legal last.0 held last.1 blocked zero_new) ∙ size in
+            (keeps_size given h p legal last.0 held last.1 blocked zero_new)
+            ∙ size-none given.setup.settings.map_limit (begin_of h p) (marks_of given h p)
+            (bits-none (begin_of h p) (marks_of given h p) above) in
             let pressed : is_pressed last.0 given.setup.settings.map_limit given.setup.settings.press_percent ≡ true =
             rw last.1 at blocked in
             let lt : given.setup.settings.map_limit * given.setup.settings.press_percent < 0 * 100 = ltb-true _ _
@@ -139,11 +137,19 @@ commit-frees given h p legal held blocked above =
       ]
     ]
 
+commit-frees : (given : Given) (h : List Event) (p : ℕ) → IsLegal given h → is_held h p ≡ true →
+    is_blocked given h p ≡ true
+    → ((g : ℕ) → high_of given h p ≡ Some g → g < position_of given h p) → GoesOn given h p
+commit-frees given h p legal held blocked above =
+    CommitIsDue blocked (commit-is-due given h p legal held blocked above)
+    (size-none given.setup.settings.map_limit (begin_of h p) (marks_of given h p)
+    (bits-none (begin_of h p) (marks_of given h p) above))
+
 -- ---- the high lies below the position where every open record does
 
 module _ (given : Given) (h : List Event) (p : ℕ) (legal : IsLegal given h) where
   -- where the high lies below each known record that is incomplete, it lies below the position
-  high-below : (g : ℕ) → high_of given h p ≡ Some g →
+  pub high-below : (g : ℕ) → high_of given h p ≡ Some g →
       ((r : Record) → In r (known_by given h p) → is_complete h p r.offset ≡ false → g < r.offset)
       → g < position_of given h p
   high-below g high below =
@@ -160,7 +166,7 @@ module _ (given : Given) (h : List Event) (p : ℕ) (legal : IsLegal given h) wh
       ]
 
   -- a known record that is incomplete is open, or it was not polled
-  known-open : (r : Record) → In r (known_by given h p) → is_complete h p r.offset ≡ false → In r
+  pub known-open : (r : Record) → In r (known_by given h p) → is_complete h p r.offset ≡ false → In r
       (open_records given h p) ⊎ In r (unpolled_records given h p)
   unfolding open_records polled_records unpolled_records
   known-open r i waits = elim
@@ -172,19 +178,19 @@ module _ (given : Given) (h : List Event) (p : ℕ) (legal : IsLegal given h) wh
       ]
 
   -- an open record is a polled one that is incomplete, and stands below those that were not polled
-  open-polled : (r : Record) → In r (open_records given h p) → In r (polled_records given h p) ×
+  pub open-polled : (r : Record) → In r (open_records given h p) → In r (polled_records given h p) ×
       (is_complete h p r.offset ≡ false)
   unfolding open_records
   open-polled r i = let at = In-filtered (λ q. not (is_complete h p q.offset)) r
       (polled_records given h p) i in (at.0, not-true _ at.1)
 
-  open-In : (r : Record) → In r (polled_records given h p) → is_complete h p r.offset ≡ false →
+  pub open-In : (r : Record) → In r (polled_records given h p) → is_complete h p r.offset ≡ false →
       In r (open_records given h p)
   unfolding open_records
   open-In r i waits = In-filter (λ q. not (is_complete h p q.offset)) r (polled_records given h p) i
       (rw waits refl)
 
-  polled-above : (r s : Record) → In r (polled_records given h p) → In s
+  pub polled-above : (r s : Record) → In r (polled_records given h p) → In s
       (unpolled_records given h p) → r.offset < s.offset
   unfolding polled_records unpolled_records
   polled-above r s i j = drop-above (polled_count h p) 0 (records_from_begin given h p)
@@ -224,7 +230,7 @@ not_below : (o g : ℕ) (high : Option ℕ) → high ≡ Some g → option_map_o
 not_below o g high is e = let test : nat_lt o g ≡ false = rw is at e in
     elim (cases_lt o g) [ inl lt ↦ true-not-false (nat_lt o g) (lt-ltb o g lt) test | inr le ↦ le ]
 
-above-high : (o g : ℕ) (high : Option ℕ) → high ≡ Some g → option_map_or (nat_le o) high false
+pub above-high : (o g : ℕ) (high : Option ℕ) → high ≡ Some g → option_map_or (nat_le o) high false
     ≡ false → g < o
 above-high o g high is e = let test : nat_le o g ≡ false = rw is at e in
     elim (cases_lt g o) [ inl lt ↦ lt | inr le ↦ true-not-false (nat_le o g) (le-leb o g le) test ]
@@ -246,7 +252,7 @@ slice_get-none : {X : Type 0} (xs : List X) (x : X) → slice_get xs 0 ≡ None 
 slice_get-none [] x e i = i
 slice_get-none (y ∷ ys) x e i = cc
 
-list_cases : {X : Type 0} (xs : List X) → (xs ≡ []) ⊎ ((x : X) × In x xs)
+pub list_cases : {X : Type 0} (xs : List X) → (xs ≡ []) ⊎ ((x : X) × In x xs)
 list_cases [] = inl refl
 list_cases (x ∷ xs) = inr (x, inl refl)
 

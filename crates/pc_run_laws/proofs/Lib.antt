@@ -1,0 +1,2 @@
+pub mod AttemptsLaw
+pub mod RestLaw
