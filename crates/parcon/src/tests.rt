@@ -87,6 +87,9 @@ const COMMIT: &[u8] = b"assign 0\npoll 0 3\ntake 1\nend 1\ncommit 0\ncrash\nassi
 
 const REVOKE: &[u8] = b"assign 0\npoll 0 3\ntake 1\nend 1\nrevoke 0\nassign 0\n";
 
+const FINISH: &[u8] = b"assign 0\npoll 0 3\ntake 1\ntake 1\ntake 1\nend 1\nend 2\nend 3\n\
+commit 0\ndone\ncommit 0\ndone\n";
+
 /// Two starts; that of part 1 is sent first.
 const STARTS: &[u8] =
     b"start = [{ part = 1, position = 5 }, { part = 0, position = 1, map = \"bAACAg==\" }]\n";
@@ -120,9 +123,17 @@ const COMMIT_FAILED: &[u8] =
 const KEPT_COMMIT_FAILED: &[u8] =
     b"assign 0 epoch 1 at 7 map =bAACAg==\ncommit-failed 0 at 7 map = size 0\nline 2: link-failed\n";
 
+const FINISHED: &[u8] = b"assign 0 epoch 1 at 0 map =\npoll 0 count 3 last 2\n\
+dispatch 1 worker 1 part 0 offset 0 epoch 1 attempt 1\n\
+dispatch 2 worker 1 part 0 offset 1 epoch 1 attempt 1\n\
+dispatch 3 worker 1 part 0 offset 2 epoch 1 attempt 1\n\
+success 1 =1\nsuccess 2 =2\nsuccess 3 =3\n\
+commit-failed 0 at 3 map = size 0\ncommit 0 at 3 map = size 0\ndone\n\
+line 9: link-failed\nline 10: uncommitted 0 0 3\n";
+
 const START_FAILED: &[u8] = b"fault link link-failed\n";
 
-const ROWS: [Row; 23] = [
+const ROWS: [Row; 25] = [
     // The link fails at the commit, before the broker has it and after.
     Row {
         early: 2,
@@ -173,6 +184,23 @@ dispatch 1 worker 1 part 0 offset 0 epoch 1 attempt 1\nsuccess 1 =1\n\
 commit-failed 0 at 1 map = size 0\nrevoke 0 epoch 1\nassign 0 epoch 3 at 1 map =\n",
         events: 7,
         stored: (1, "", 0),
+        ..ROW
+    },
+    // After a failed commit not all is done before one is stored, also where the broker had the first.
+    Row {
+        script: FINISH,
+        early: 2,
+        output: FINISHED,
+        events: 11,
+        stored: (3, "", 0),
+        ..ROW
+    },
+    Row {
+        script: FINISH,
+        late: 2,
+        output: FINISHED,
+        events: 11,
+        stored: (3, "", 0),
         ..ROW
     },
     // It fails at the assignment.

@@ -1,11 +1,9 @@
 -- What is played: the logs of a play's files, and the lines of its script.
-use Rattle.std.specs.Prelude.{ℕ, ◌≡◌, ◌<◌, ◌≤◌, ◌+◌, ◌++◌, length, Bool, true, false, not, nat_lt, List, [], ◌∷◌, map, find, unwrap_or, Option, Some, None, option_map, Result, Ok, Err, if◌then◌else◌}
+use Rattle.std.specs.Prelude.{ℕ, ◌≡◌, ◌<◌, ◌≤◌, ◌+◌, ◌++◌, length, Bool, nat_lt, List, [], ◌∷◌, map, unwrap_or, Option, Some, None, Result, Ok, Err, if◌then◌else◌}
 use Rattle.pc_model.specs.declared.limits.TheConstants.{MAX_RECORDS, MAX_SCRIPT_LINES}
 use Rattle.std.specs.List.{list_all}
 use Rattle.pc_model.specs.Record.{Record}
 use Rattle.pc_model.specs.Given.{rises_from}
-use Rattle.pc_script.specs.declared.play.PlayAct.{PlayAct}
-use Rattle.pc_script.specs.declared.play.PlayAct.TheVariants.{Assign, Commit, Poll, Take, End, Tick, Revoke, Lose, Crash}
 use Rattle.pc_script.specs.declared.play.PlayLine.{PlayLine}
 use Rattle.pc_script.specs.declared.fault.ScriptReadFault.{ScriptReadFault}
 use Rattle.pc_script.specs.declared.fault.ScriptReadFault.TheVariants.{Bad, TooManyLines, NoMemory}
@@ -77,23 +75,6 @@ pub record IsOverfull (before : List (Option (List Record))) (log : List Record)
 
 -- ---- lines
 
--- whether the program plays such a line
-abbrev pub is_built : PlayAct → Bool
-is_built (Assign part) = true
-is_built (Commit part) = true
-is_built (Poll part max) = true
-is_built (Take worker) = true
-is_built (End ticket) = true
-is_built (Tick now) = true
-is_built (Revoke part) = true
-is_built (Lose part) = true
-is_built Crash = true
-is_built act = false
-
--- the number of the first line that the program does not play
-abbrev pub first_unbuilt : List PlayLine → Option ℕ
-first_unbuilt lines = option_map (λ l. l.line) (find (λ l. not (is_built l.act)) lines)
-
 -- the status of a script that does not read
 abbrev pub script_status : ScriptReadFault → Status
 script_status (Bad fault) = status.BadScript fault.line fault.kind
@@ -104,18 +85,6 @@ script_status NoMemory = status.NoMemory
 abbrev pub lines_or_status : Result (List PlayLine) ScriptReadFault → Result (List PlayLine) Status
 lines_or_status (Ok lines) = Ok lines
 lines_or_status (Err fault) = Err (script_status fault)
-
--- a script that is played, unless a line of it is not built
-abbrev pub built_lines : List PlayLine → Option ℕ → Result (List PlayLine) Status
-built_lines lines None = Ok lines
-built_lines lines (Some line) = Err (status.NotBuilt line)
-
--- the lines of a script's text, unless it does not read or a line is not built
-abbrev pub lines_of_script : List ℕ → Result (List PlayLine) Status
-lines_of_script script =
-    do
-      lines ← lines_or_status (script_of script)
-      built_lines lines (first_unbuilt lines)
 
 -- ---- all of them
 
@@ -132,7 +101,7 @@ plan_behind texts =
       settings ← settings_in texts.config
       logs ← checked_logs texts.logs
       few ← few_records (logs_with logs)
-      lines ← lines_of_script texts.script
+      lines ← lines_or_status (script_of texts.script)
       Ok (record { settings = settings; lines = lines })
 
 -- the play that these words and these reads ask for, or the status that ends it before it begins

@@ -24,7 +24,6 @@ status_number status.SinkFault = 7
 status_number (status.LinkFault fault) = 8
 status_number (status.Limit which number) = 9
 status_number status.NoMemory = 11
-status_number (status.NotBuilt line) = 99
 
 -- the status of a starting commit that was not stored
 abbrev pub client_status : ClientFault → Status
@@ -71,5 +70,3 @@ fault_line (status.LinkFault fault) = fault_words_line (codes "link" ∷ client_
 fault_line (status.Limit which number) =
     line_of_words (codes "fault" ∷ codes "limit" ∷ limit_name which ∷ decimal number ∷ [])
 fault_line status.NoMemory = []
-fault_line (status.NotBuilt line) =
-    line_of_words (codes "fault" ∷ codes "not-built" ∷ decimal line ∷ [])

@@ -47,9 +47,6 @@ pub fn put_fault(alloc: Global, out: &mut Vec<u8>, status: &Status) -> Result<()
             b"fault",
             &[Name(b"limit"), Name(limit_name(*which)), Number(*number)],
         ),
-        Status::NotBuilt { line } => {
-            put_line(out, b"fault", &[Name(b"not-built"), Number(*line)])
-        }
     }
 }
 

@@ -4,7 +4,7 @@ ghost use Rattle.std.specs.Prelude.{◌≡◌, ◌≤◌, ◌⊎◌, ◌<◌, Er
 ghost use Rattle.std.specs.Result.{result_map_both};
 ghost use Rattle.pc_cursor.specs.Log.{all_batches, contents_of, records_of};
 ghost use Rattle.pc_inputs.specs.Reading.{text_of, texts_of};
-ghost use Rattle.pc_inputs.specs.Plan.{AddsLog, IsOverfull, built_lines, checked_logs, few_records, first_unbuilt, is_built, lines_of_script, log_or_status, logs_of, logs_with, plan_behind, planned};
+ghost use Rattle.pc_inputs.specs.Plan.{AddsLog, IsOverfull, checked_logs, few_records, log_or_status, logs_of, logs_with, plan_behind, planned};
 ghost use Rattle.pc_inputs.specs.declared.status.Status.TheVariants.{NoMemory};
 
 use crate::configuration::setup_in;
@@ -14,7 +14,7 @@ use pc_broker_log::{AddFault, BrokerLogs};
 use pc_cursor::{CheckFault, Log};
 use pc_model::limits::{MAX_PARTS, MAX_RECORDS};
 use pc_model::{NameText, Setup};
-use pc_script::{PlayAct, PlayLine, PlayScript, read_play};
+use pc_script::{PlayScript, read_play};
 use std::alloc::Global;
 
 /// What is played: a script over logs, with a setup.
@@ -24,7 +24,7 @@ pub struct Plan<'a> {
     pub setup: Setup,
     /// The log of the file at place k is that of part k.
     pub logs: BrokerLogs<'a>,
-    /// Its lines can all be played.
+    /// The lines, in order.
     pub script: PlayScript,
 }
 
@@ -40,7 +40,7 @@ pub fn plan_of<'a>(alloc: Global, texts: &'a Texts<'_>) -> Result<Plan<'a>, Stat
     let setup = setup_in(alloc, &texts.config)?;
     let checked = checked_logs(alloc, texts.logs.as_slice())?;
     let logs = broker_logs(alloc, checked)?;
-    let script = built_script(alloc, texts.script.as_slice())?;
+    let script = read_play(alloc, texts.script.as_slice())?;
     Ok(Plan {
         setup,
         logs,
@@ -110,50 +110,4 @@ fn add_next<'a>(logs: &mut BrokerLogs<'a>, part: u32, log: Log<'a>) -> Result<()
         Err(AddFault::NoMemory) => Err(Status::NoMemory),
         Err(AddFault::UnknownPart | AddFault::TwiceGiven) => unreachable!(),
     }
-}
-
-/// The script, unless it does not read or the program cannot play one of its lines.
-fn built_script(alloc: Global, script: &[u8]) -> Result<PlayScript, Status>
-    ensures { (result ≡ Err NoMemory) ⊎ (result ≡ lines_of_script script.now) }
-{
-    let script = read_play(alloc, script)?;
-    built(script)
-}
-
-/// The script, unless the program cannot play one of its lines.
-fn built(script: PlayScript) -> Result<PlayScript, Status>
-    ensures { result ≡ built_lines script (first_unbuilt script) }
-{
-    match first_unbuilt(script.as_slice()) {
-        Some(line) => Err(Status::NotBuilt { line }),
-        None => Ok(script),
-    }
-}
-
-/// The number of the first line that the program cannot play.
-fn first_unbuilt(lines: &[PlayLine]) -> Option<u64>
-    ensures { result ≡ first_unbuilt lines.now }
-{
-    lines
-        .iter()
-        .find(|line| !is_built(line.act))
-        .map(|line| line.line)
-}
-
-/// Whether the program can play such a line.
-fn is_built(act: PlayAct) -> bool
-    ensures { result ≡ is_built act }
-{
-    matches!(
-        act,
-        PlayAct::Assign(_)
-            | PlayAct::Commit(_)
-            | PlayAct::Poll { .. }
-            | PlayAct::Take(_)
-            | PlayAct::End(_)
-            | PlayAct::Tick(_)
-            | PlayAct::Revoke(_)
-            | PlayAct::Lose(_)
-            | PlayAct::Crash
-    )
 }

@@ -59,10 +59,6 @@ pub enum Status {
     },
     /// Memory ran out.
     NoMemory,
-    /// The program cannot play this line of the script yet.
-    NotBuilt {
-        line: u64,
-    },
 }
 
 /// The number of `Status::NoMemory`.
@@ -86,7 +82,6 @@ impl Status {
             Status::LinkFault(_) => 8,
             Status::Limit { .. } => 9,
             Status::NoMemory => NO_MEMORY,
-            Status::NotBuilt { .. } => 99,
         }
     }
 }

@@ -10,7 +10,7 @@ use Rattle.pc_model.specs.Epochs.{epoch_of, is_held}
 use Rattle.pc_model.specs.Known.{commit_of}
 use Rattle.pc_model.specs.Jobs.{has_ended}
 use Rattle.pc_script.specs.declared.play.PlayAct.{PlayAct}
-use Rattle.pc_script.specs.declared.play.PlayAct.TheVariants.{Assign, Commit, Poll, Take, End, Tick, Revoke, Lose, Crash}
+use Rattle.pc_script.specs.declared.play.PlayAct.TheVariants.{Assign, Commit, Poll, Take, End, Tick, Revoke, Lose, Crash, Drain, Done, Close}
 use Rattle.pc_offset_client.specs.declared.fault.ClientFault.{ClientFault}
 use Rattle.pc_offset_client.specs.declared.fault.ClientFault.TheVariants as client
 use Rattle.pc_model.specs.Outcomes.{outcome_of}
@@ -27,13 +27,14 @@ use Rattle.pc_model.specs.declared.outcome.Outcome.{Outcome}
 use Rattle.pc_model.specs.declared.outcome.Outcome.TheVariants.{Good, Bad}
 use Rattle.pc_state.specs.Calls.{IsExpected}
 use Rattle.pc_engine.specs.Effect.{Step, Does, IsFetched, IsStored, KeepsStore, Settles, assign_after, assign_refusal, assign_step, commit_after, commit_refusal, commit_step, crash_step, lose_step, poll_step, revoke_after, revoke_refusal, revoke_step, settle_event, settle_step, settled_as, take_step, tick_step}
+use Rattle.pc_engine.specs.Ending.{close_step, drain_step, finish_step}
 use Rattle.pc_play.specs.declared.hand.Hand.{Hand}
 use Rattle.pc_play.specs.declared.remark.Notice.{Notice}
 use Rattle.pc_play.specs.declared.remark.Notice.TheVariants.{Refused, Stranger}
 use Rattle.pc_play.specs.Hand.{AreIn, HasInHand, job_with, without}
-use Rattle.pc_play.specs.Play.{Asked, Breaks, Calls, Fetches, Makes, Moment, Stores, Unless, call_notice, done_by, end_job, end_step, hand_after, poll_notice, settled_notice, take_notice, tick_notice}
+use Rattle.pc_play.specs.Play.{Asked, Asks, Breaks, Calls, Fetches, LineStep, Makes, Moment, Stores, Unless, call_notice, done_by, end_job, end_step, hand_after, moment, poll_notice, settled_notice, step_of, take_notice, tick_notice}
 use Rattle.pc_play.proofs.NoLine.{aborted-same}
-use Rattle.pc_play.proofs.HandLemmas.{Expects, assign-expects, commit-expects, crash-expects, end-expects, job_with-but, job_with-is, lose-expects, poll-expects, revoke-expects, take-expects, tick-expects}
+use Rattle.pc_play.proofs.HandLemmas.{Expects, assign-expects, close-expects, commit-expects, crash-expects, drain-expects, end-expects, finish-expects, job_with-but, job_with-is, lose-expects, poll-expects, revoke-expects, take-expects, tick-expects}
 
 -- ---- the parts of what is in hand
 
@@ -101,6 +102,18 @@ calls-refused told given h act m m' h' hand hand' fault (Ok notice) made broken 
 calls-refused told given h act m m' h' hand hand' fault (Err e) made broken is = broken is
 
 -- ---- the calls
+
+-- The call of a line asks nothing of the link, leaves the jobs in hand, and answers no more than
+-- whether it was refused: it comes to this step.
+record IsPlain (told : Bool) (given : Given) (h : List Event) (act : PlayAct)
+    (step : Step (Unit {0})) (m m' : Moment) : Type 0 where
+  asks : Asks told given h act m (record { asked = Err client.NoMemory; after = m' })
+  comes : (jobs : List PlainJob) → step_of given h jobs act (Err client.NoMemory) ≡ record {
+    events = step.events;
+    hand = jobs;
+    notice = call_notice step.answer;
+  }
+  expects : (jobs : List PlainJob) → Expects given h jobs → Expects given (step.events ++ h) jobs
 
 module _ (given : Given) (h h' : List Event) (told : Bool) (m m' : Moment) where
   -- a fetch or a commit, unless it was refused
@@ -218,32 +231,29 @@ module _ (given : Given) (h h' : List Event) (told : Bool) (m m' : Moment) where
       revoked (Ok done, stored, does) = revoked-by (Ok no_commit) stored does
       revoked (Err fault, stored, does) = revoked-by (Err fault) stored does
 
-    -- the calls that ask nothing
+    -- a call that answers no more than whether it was refused
+    plain-made : (act : PlayAct) (step : Step (Unit {0})) (a : Result (Unit {0}) EngineFault)
+        (notice : Option Notice) → IsPlain told given h act step m m' → (a ≡ Err NoMemory → ⊥)
+        → notice ≡ call_notice a → Does a step h h'
+        → Makes told given h jobs act m m' h' hand notice
+    plain-made act step a notice plain other is does =
+        let done = does-is a step h h' other does in
+        let came = sym (plain.comes jobs) in
+        record {
+          comes = record {
+            asked = Err client.NoMemory;
+            asks = plain.asks;
+            events = done.1 ∙ ap (λ (x : LineStep). x.events ++ h) came;
+          };
+          notice_is = is ∙ ap (λ (x : Result (Unit {0}) EngineFault). call_notice x) done.0
+              ∙ ap (λ (x : LineStep). x.notice) came;
+          in_hand = subst (λ (x : LineStep). HasInHand given h' x.hand hand) came
+              (has-after given _ h' jobs hand done.1 has.each
+              (plain.expects jobs (expects-of given h jobs hand has)));
+        }
+
+    -- the other calls that ask nothing
     module _ (same : m' ≡ m) where
-      pub lost : (p : ℕ) (r : Result (Unit {0}) EngineFault) (notice : Option Notice)
-          → (r ≡ Err NoMemory → ⊥) → notice ≡ call_notice r → Does r (lose_step given h p) h h'
-          → Makes told given h jobs (Lose p) m m' h' hand notice
-      lost p r notice other is does =
-          let done = does-is r (lose_step given h p) h h' other does in
-          record {
-            comes = record { asked = Err client.NoMemory; asks = same; events = done.1 };
-            notice_is = is ∙ ap (λ (x : Result (Unit {0}) EngineFault). call_notice x) done.0;
-            in_hand = has-after given _ h' jobs hand done.1 has.each
-                (lose-expects given h jobs (expects-of given h jobs hand has) p);
-          }
-
-      pub crashed : (r : Result (Unit {0}) EngineFault) (notice : Option Notice)
-          → (r ≡ Err NoMemory → ⊥) → notice ≡ call_notice r → Does r (crash_step h) h h'
-          → Makes told given h jobs Crash m m' h' hand notice
-      crashed r notice other is does =
-          let done = does-is r (crash_step h) h h' other does in
-          record {
-            comes = record { asked = Err client.NoMemory; asks = same; events = done.1 };
-            notice_is = is ∙ ap (λ (x : Result (Unit {0}) EngineFault). call_notice x) done.0;
-            in_hand = has-after given _ h' jobs hand done.1 has.each
-                (crash-expects given h jobs (expects-of given h jobs hand has));
-          }
-
       pub ticked : (n : ℕ) (r : Result Bool EngineFault) (notice : Option Notice)
           → (r ≡ Err NoMemory → ⊥) → notice ≡ tick_notice r → Does r (tick_step h n) h h'
           → Makes told given h jobs (Tick n) m m' h' hand notice
@@ -363,6 +373,20 @@ module _ (given : Given) (h h' : List Event) (told : Bool) (m m' : Moment) where
   call-broke act step fault none same does jobs =
       inl (broke step fault h h' none does, aborted-same told m m' same)
 
+  -- a call that answers no more than whether it was refused
+  plain-calls : {E : Type 0} (hand : Hand) (act : PlayAct) (step : Step (Unit {0}))
+      (a : Result (Unit {0}) EngineFault) (r : Result (Option Notice) E)
+      → IsPlain told given h act step m m' → m' ≡ m → Does a step h h'
+      → MatchResult r (λ notice. (a ≡ Err NoMemory → ⊥) × (notice ≡ call_notice a))
+      (λ e. a ≡ Err NoMemory)
+      → Calls told given h act m m' h' hand hand r
+  plain-calls hand act step a (Ok notice) plain same does is = λ jobs has.
+      plain-made jobs hand has act step a notice plain is.0 is.1 does
+  plain-calls hand act step a (Err e) plain same does is = λ jobs. inl (
+    subst (λ (x : Result (Unit {0}) EngineFault). Does x step h h') is does,
+    aborted-same told m m' same,
+  )
+
   -- a take whose job found no place in hand
   pub take-comes : (worker : ℕ) (r : Result (Option PlainJob) EngineFault)
       → (r ≡ Err NoMemory → ⊥) → m' ≡ m → Does r (take_step given h worker) h h'
@@ -372,6 +396,55 @@ module _ (given : Given) (h h' : List Event) (told : Bool) (m m' : Moment) where
     asks = same;
     events = (does-is r (take_step given h worker) h h' other does).1;
   })
+
+-- the calls that answer no more than whether they were refused
+module _ {E L : Type 0} (told : Bool) (given : Given) (h h' : List Event) (store : L → Broker)
+    (faults : L → ℕ) (l l' : L) (hand : Hand) (a : Result (Unit {0}) EngineFault)
+    (r : Result (Option Notice) E) (same : l' ≡ l)
+    (answered : MatchResult r (λ notice. (a ≡ Err NoMemory → ⊥) × (notice ≡ call_notice a))
+    (λ e. a ≡ Err NoMemory)) where
+  left : moment (store l') (faults l') ≡ moment (store l) (faults l)
+  left = ap (λ (x : L). moment (store x) (faults x)) same
+
+  pub lost : (p : ℕ) → Does a (lose_step given h p) h h' → Calls told given h (Lose p)
+      (moment (store l) (faults l)) (moment (store l') (faults l')) h' hand hand r
+  lost p does = plain-calls given h h' told _ _ hand (Lose p) (lose_step given h p) a r (record {
+    asks = left;
+    comes = λ jobs. refl;
+    expects = λ jobs e. lose-expects given h jobs e p;
+  }) left does answered
+
+  pub crashed : Does a (crash_step h) h h' → Calls told given h Crash
+      (moment (store l) (faults l)) (moment (store l') (faults l')) h' hand hand r
+  crashed does = plain-calls given h h' told _ _ hand Crash (crash_step h) a r (record {
+    asks = left;
+    comes = λ jobs. refl;
+    expects = λ jobs e. crash-expects given h jobs e;
+  }) left does answered
+
+  pub drained : Does a (drain_step h) h h' → Calls told given h Drain
+      (moment (store l) (faults l)) (moment (store l') (faults l')) h' hand hand r
+  drained does = plain-calls given h h' told _ _ hand Drain (drain_step h) a r (record {
+    asks = left;
+    comes = λ jobs. refl;
+    expects = λ jobs e. drain-expects given h jobs e;
+  }) left does answered
+
+  pub finished : Does a (finish_step given h) h h' → Calls told given h Done
+      (moment (store l) (faults l)) (moment (store l') (faults l')) h' hand hand r
+  finished does = plain-calls given h h' told _ _ hand Done (finish_step given h) a r (record {
+    asks = left;
+    comes = λ jobs. refl;
+    expects = λ jobs e. finish-expects given h jobs e;
+  }) left does answered
+
+  pub closed : Does a (close_step h) h h' → Calls told given h Close
+      (moment (store l) (faults l)) (moment (store l') (faults l')) h' hand hand r
+  closed does = plain-calls given h h' told _ _ hand Close (close_step h) a r (record {
+    asks = left;
+    comes = λ jobs. refl;
+    expects = λ jobs e. close-expects given h jobs e;
+  }) left does answered
 
 -- a line's call that settled a job, or found no memory for its outcome
 pub calls-settled : {E : Type 0} (told : Bool) (given : Given) (h : List Event) (act : PlayAct)
@@ -418,37 +491,3 @@ settled-so {T} {task} given h h' done job answer is outcome closed settles other
       | inl held ↦ rw held (current j o)
       | inr past ↦ rw past refl
     ]
-
--- ---- a line that is not built
-
-pub none-made : (told : Bool) (given : Given) (h : List Event) (jobs : List PlainJob) (hand : Hand)
-    (act : PlayAct) (m : Moment) → HasInHand given h jobs hand
-    → ((p : ℕ) → act ≡ Assign p → ⊥) → ((p : ℕ) → act ≡ Commit p → ⊥)
-    → ((p max : ℕ) → act ≡ Poll p max → ⊥) → ((w : ℕ) → act ≡ Take w → ⊥)
-    → ((t : ℕ) → act ≡ End t → ⊥) → ((n : ℕ) → act ≡ Tick n → ⊥)
-    → ((p : ℕ) → act ≡ Revoke p → ⊥)
-    → ((p : ℕ) → act ≡ Lose p → ⊥) → (act ≡ Crash → ⊥)
-    → Makes told given h jobs act m m h hand None
-none-made told given h jobs hand (Assign p) m has assign commit poll take end tick revoke lose crash =
-    absurd (assign p refl)
-none-made told given h jobs hand (Commit p) m has assign commit poll take end tick revoke lose crash =
-    absurd (commit p refl)
-none-made told given h jobs hand (Poll p max) m has assign commit poll take end tick revoke lose crash =
-    absurd (poll p max refl)
-none-made told given h jobs hand (Take w) m has assign commit poll take end tick revoke lose crash =
-    absurd (take w refl)
-none-made told given h jobs hand (End t) m has assign commit poll take end tick revoke lose crash =
-    absurd (end t refl)
-none-made told given h jobs hand (Tick n) m has assign commit poll take end tick revoke lose crash =
-    absurd (tick n refl)
-none-made told given h jobs hand (Revoke p) m has assign commit poll take end tick revoke lose crash =
-    absurd (revoke p refl)
-none-made told given h jobs hand (Lose p) m has assign commit poll take end tick revoke lose crash =
-    absurd (lose p refl)
-none-made told given h jobs hand Crash m has assign commit poll take end tick revoke lose crash =
-    absurd (crash refl)
-none-made told given h jobs hand act m has assign commit poll take end tick revoke lose crash = record {
-  comes = record { asked = Err client.NoMemory; asks = refl; events = refl };
-  notice_is = refl;
-  in_hand = has;
-}

@@ -6,7 +6,7 @@ use Rattle.std.specs.Option.{unwrap_or}
 use Rattle.std.proofs.lemmas.Bool.{cases_Bool, cases_lt, eqb-true, ne_eqb}
 use Rattle.pc_model.specs.declared.commit.Commit.{Commit as StoredCommit}
 use Rattle.pc_model.specs.declared.event.Event.{Event}
-use Rattle.pc_model.specs.declared.event.Event.TheVariants.{Dispatch}
+use Rattle.pc_model.specs.declared.event.Event.TheVariants.{Closed, Dispatch, Done, Drain}
 use Rattle.pc_model.specs.declared.map_fault.MapFault.{MapFault}
 use Rattle.pc_model.specs.declared.outcome.Outcome.{Outcome}
 use Rattle.pc_model.specs.declared.outcome.Outcome.TheVariants.{Good, Bad}
@@ -31,6 +31,7 @@ use Rattle.pc_engine.specs.declared.fault.EngineFault.{EngineFault}
 use Rattle.pc_state.specs.declared.jobs.OpenJob.{OpenJob}
 use Rattle.pc_state.specs.Calls.{IsExpected, job_to_do, no_record}
 use Rattle.pc_engine.specs.Effect.{assign_after, assign_refusal, assign_step, assign_with, commit_after, commit_refusal, commit_step, crash_after, crash_refusal, crash_step, tick_after, tick_refusal, tick_step, lose_after, lose_refusal, lose_step, revoke_after, revoke_refusal, revoke_step, is_full, poll_after, poll_left, poll_refusal, poll_step, settled_event, settle_event, take_after, take_next, take_refusal, take_step}
+use Rattle.pc_engine.specs.Ending.{adds_after, close_step, drain_refusal, drain_step, finish_refusal, finish_step}
 use Rattle.pc_state.specs.OpenJobs.{kept_job, open_job}
 use Rattle.pc_state.proofs.DispatchLemmas.{next-open}
 use Rattle.pc_state.proofs.OpenJobsLemmas.{open_job-dispatch, open_job-settled}
@@ -223,6 +224,26 @@ module _ (given : Given) (h : List Event) (jobs : List PlainJob) (e : Expects gi
       after : (r : Option EngineFault) → Expects given ((crash_after r).events ++ h) jobs
       after (Some fault) = e
       after None = quiet given h jobs _ (λ t. refl) refl (λ t. refl) e
+
+  -- the begin of a drain, or an end
+  added-expects : (v : Event) (r : Option EngineFault)
+      → ((t : ℕ) → open_job (v ∷ h) t ≡ open_job h t) → dispatch_count (v ∷ h) ≡ dispatch_count h
+      → ((t : ℕ) → is_settled (v ∷ h) t ≡ is_settled h t)
+      → Expects given ((adds_after v r).events ++ h) jobs
+  added-expects v (Some fault) out count settled = e
+  added-expects v None out count settled = quiet given h jobs v out count settled e
+
+  pub drain-expects : Expects given ((drain_step h).events ++ h) jobs
+  unfolding open_job
+  drain-expects = added-expects Drain (drain_refusal h) (λ t. refl) refl (λ t. refl)
+
+  pub finish-expects : Expects given ((finish_step given h).events ++ h) jobs
+  unfolding open_job
+  finish-expects = added-expects Done (finish_refusal given h) (λ t. refl) refl (λ t. refl)
+
+  pub close-expects : Expects given ((close_step h).events ++ h) jobs
+  unfolding open_job
+  close-expects = added-expects Closed (crash_refusal h) (λ t. refl) refl (λ t. refl)
 
   -- a tick
   pub tick-expects : (n : ℕ) → Expects given ((tick_step h n).events ++ h) jobs

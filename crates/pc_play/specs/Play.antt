@@ -12,7 +12,7 @@ use Rattle.pc_task.specs.declared.task.RuleTask.{RuleTask}
 use Rattle.pc_task.specs.declared.task.Task.{Ghosts}
 use Rattle.pc_task.specs.Jobs.{PlainJob, due_outcome}
 use Rattle.pc_script.specs.declared.play.PlayAct.{PlayAct}
-use Rattle.pc_script.specs.declared.play.PlayAct.TheVariants.{Assign, Commit, Poll, Take, End, Tick, Revoke, Lose, Crash}
+use Rattle.pc_script.specs.declared.play.PlayAct.TheVariants.{Assign, Commit, Poll, Take, End, Tick, Revoke, Lose, Crash, Drain, Done, Close}
 use Rattle.pc_script.specs.declared.play.PlayLine.{PlayLine}
 use Rattle.pc_offset_client.specs.declared.fault.ClientFault.{ClientFault}
 use Rattle.pc_offset_client.specs.declared.fault.ClientFault.TheVariants.{NoMemory}
@@ -22,6 +22,7 @@ use Rattle.pc_engine.specs.declared.settled.Settled.{Settled}
 use Rattle.pc_engine.specs.declared.settled.Settled.TheVariants as settled
 use Rattle.pc_engine.specs.Engine.{EngineView, given_of}
 use Rattle.pc_engine.specs.Effect.{IsFetched, IsStored, assign_refusal, assign_step, commit_refusal, commit_step, crash_step, lose_step, poll_step, revoke_refusal, revoke_step, settle_event, take_step, tick_step}
+use Rattle.pc_engine.specs.Ending.{close_step, drain_step, finish_step}
 use Rattle.pc_play.specs.declared.remark.Notice.{Notice}
 use Rattle.pc_play.specs.declared.remark.Notice.TheVariants.{Refused, NoJob, AtEnd, OldTime, Stranger}
 use Rattle.pc_play.specs.declared.remark.Remark.{Remark}
@@ -108,7 +109,7 @@ end_step given h hand t None = record { events = []; hand = hand; notice = Some 
 end_step given h hand t (Some job) = end_job given h (without t hand) job
 
 -- what the call of a line comes to. The jobs in hand stay so when their part is given back or lost,
--- and at a crash. A line that is not built makes no call.
+-- at a crash, and when the engine ends.
 abbrev pub step_of : Given → List Event → List PlainJob → PlayAct → Asked → LineStep
 step_of given h hand (Assign part) asked =
     let step = assign_step given h part asked in
@@ -139,7 +140,15 @@ step_of given h hand (Lose part) asked =
 step_of given h hand Crash asked =
     let step = crash_step h in
     record { events = step.events; hand = hand; notice = call_notice step.answer }
-step_of given h hand act asked = record { events = []; hand = hand; notice = None }
+step_of given h hand Drain asked =
+    let step = drain_step h in
+    record { events = step.events; hand = hand; notice = call_notice step.answer }
+step_of given h hand Done asked =
+    let step = finish_step given h in
+    record { events = step.events; hand = hand; notice = call_notice step.answer }
+step_of given h hand Close asked =
+    let step = close_step h in
+    record { events = step.events; hand = hand; notice = call_notice step.answer }
 
 abbrev pub remarks_on : ℕ → Option Notice → List Remark
 remarks_on n None = []
@@ -194,7 +203,8 @@ abbrev pub Unless : Option EngineFault → Type 0 → Moment → Moment → Type
 Unless (Some fault) asks before after = after ≡ before
 Unless None asks before after = asks
 
--- what a line's call does to the link, and what it answers
+-- what a line's call does to the link, and what it answers. A poll, a take, an end, a tick, a loss, a
+-- crash, a drain, a done and a close ask nothing of it.
 abbrev pub Asks : Bool → Given → List Event → PlayAct → Moment → Entry → Type 0
 Asks told given h (Assign p) before entry =
     Unless (assign_refusal given h p) (Fetches told p before entry) before entry.after

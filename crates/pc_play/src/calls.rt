@@ -1,16 +1,16 @@
 //! The calls of the engine, one for each line of a script, and what is to be remarked of each.
 
-ghost use Rattle.std.specs.Prelude.{◌≡◌, ◌≤◌, ◌<◌, ◌++◌, ℕ, List, true, IfOk, MatchResult, OnErr, Some, Ok};
+ghost use Rattle.std.specs.Prelude.{◌≡◌, ◌≤◌, ◌<◌, ◌++◌, ℕ, List, true, IfOk, MatchResult, OnErr, Some, Ok, Err};
 ghost use Rattle.pc_model.specs.Given.{has_log};
 ghost use Rattle.pc_script.specs.PlayScript.{IsPlayable};
-ghost use Rattle.pc_script.specs.declared.play.PlayAct.TheVariants.{Assign, Commit, Poll, Take, End, Tick, Revoke, Lose, Crash};
+ghost use Rattle.pc_script.specs.declared.play.PlayAct.TheVariants.{Assign, Commit, Poll, Take, End, Tick, Revoke, Lose, Crash, Drain, Done, Close};
 ghost use Rattle.pc_task.specs.Jobs.{PlainJob, plain_job};
 ghost use Rattle.pc_engine.specs.declared.fault.EngineFault.TheVariants.{NoMemory};
 ghost use Rattle.pc_state.specs.Calls.{IsExpected};
 ghost use Rattle.pc_engine.specs.Effect.{StoresOnly};
 ghost use Rattle.pc_play.specs.declared.hand.Hand.{Hand};
 ghost use Rattle.pc_play.specs.declared.remark.Notice.TheVariants.{Refused};
-ghost use Rattle.pc_play.specs.Play.{given_by_rules, Calls, end_job, moment, poll_notice, settled_notice};
+ghost use Rattle.pc_play.specs.Play.{given_by_rules, Calls, call_notice, end_job, moment, poll_notice, settled_notice};
 
 use crate::hand::Hand;
 use crate::remark::Notice;
@@ -20,8 +20,8 @@ use pc_task::{Job, RuleTask, Task};
 use pc_world::Link;
 use std::alloc::{AllocError, Global};
 
-/// Makes the call that a line asks for, and answers what is to be remarked of it. A line that the
-/// program cannot play makes none. Fails when out of memory.
+/// Makes the call that a line asks for, and answers what is to be remarked of it. Fails when out of
+/// memory.
 pub(crate) fn call<'a, L: Link>(
     alloc: Global,
     engine: &mut Engine<'a, L>,
@@ -50,7 +50,9 @@ pub(crate) fn call<'a, L: Link>(
         PlayAct::Revoke(part) => revoke(engine, part),
         PlayAct::Lose(part) => lose(engine, part),
         PlayAct::Crash => crash(engine),
-        _ => Ok(None),
+        PlayAct::Drain => drain(engine),
+        PlayAct::Done => done(engine),
+        PlayAct::Close => close(engine),
     }
 }
 
@@ -252,10 +254,7 @@ fn lose<L: Link>(engine: &mut Engine<'_, L>, part: u32) -> Result<Option<Notice>
     ensures given { (given_by_rules engine.new) ≡ (given_by_rules engine.old) }
     ensures link { engine.new.link ≡ engine.old.link }
 {
-    match engine.lose(part) {
-        Ok(()) => Ok(None),
-        Err(fault) => refused(fault),
-    }
+    answered(engine.lose(part))
 }
 
 /// Lets the engine crash. The jobs in hand stay there.
@@ -268,7 +267,55 @@ fn crash<L: Link>(engine: &mut Engine<'_, L>) -> Result<Option<Notice>, AllocErr
     ensures given { (given_by_rules engine.new) ≡ (given_by_rules engine.old) }
     ensures link { engine.new.link ≡ engine.old.link }
 {
-    match engine.crash() {
+    answered(engine.crash())
+}
+
+/// Begins a drain.
+fn drain<L: Link>(engine: &mut Engine<'_, L>) -> Result<Option<Notice>, AllocError>
+    ensures effect { (hand : Hand) → Calls (L.is_told engine.old.link) (given_by_rules engine.old)
+        engine.old.journal.events Drain
+        (moment (L.store engine.old.link) (L.faults engine.old.link))
+        (moment (L.store engine.new.link) (L.faults engine.new.link))
+        engine.new.journal.events hand hand result }
+    ensures given { (given_by_rules engine.new) ≡ (given_by_rules engine.old) }
+    ensures link { engine.new.link ≡ engine.old.link }
+{
+    answered(engine.begin_drain())
+}
+
+/// Ends the engine, where all is done. The jobs in hand stay there.
+fn done<L: Link>(engine: &mut Engine<'_, L>) -> Result<Option<Notice>, AllocError>
+    ensures effect { (hand : Hand) → Calls (L.is_told engine.old.link) (given_by_rules engine.old)
+        engine.old.journal.events Done
+        (moment (L.store engine.old.link) (L.faults engine.old.link))
+        (moment (L.store engine.new.link) (L.faults engine.new.link))
+        engine.new.journal.events hand hand result }
+    ensures given { (given_by_rules engine.new) ≡ (given_by_rules engine.old) }
+    ensures link { engine.new.link ≡ engine.old.link }
+{
+    answered(engine.finish())
+}
+
+/// Closes the engine as it stands. The jobs in hand stay there.
+fn close<L: Link>(engine: &mut Engine<'_, L>) -> Result<Option<Notice>, AllocError>
+    ensures effect { (hand : Hand) → Calls (L.is_told engine.old.link) (given_by_rules engine.old)
+        engine.old.journal.events Close
+        (moment (L.store engine.old.link) (L.faults engine.old.link))
+        (moment (L.store engine.new.link) (L.faults engine.new.link))
+        engine.new.journal.events hand hand result }
+    ensures given { (given_by_rules engine.new) ≡ (given_by_rules engine.old) }
+    ensures link { engine.new.link ≡ engine.old.link }
+{
+    answered(engine.close())
+}
+
+/// What is to be remarked of a call that answers no more than whether it was refused.
+fn answered(answer: Result<(), EngineFault>) -> Result<Option<Notice>, AllocError>
+    ensures { MatchResult result
+        (λ notice. (answer ≡ Err NoMemory → ⊥) × (notice ≡ call_notice answer))
+        (λ _. answer ≡ Err NoMemory) }
+{
+    match answer {
         Ok(()) => Ok(None),
         Err(fault) => refused(fault),
     }
