@@ -1,1 +1,3 @@
+pub mod OffsetsLemmas
+pub mod QueueLemmas
 pub mod WaitingLemmas

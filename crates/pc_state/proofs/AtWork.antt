@@ -30,21 +30,11 @@ use Rattle.pc_state.specs.declared.jobs.OpenJob.{OpenJob}
 use Rattle.pc_state.specs.declared.part.HeldPart.{HeldPart}
 use Rattle.pc_state.specs.declared.part.PartState.{PartState}
 use Rattle.pc_state.specs.declared.state.State.{State}
+pub use Rattle.pc_state.specs.Calls.{IsAtWork}
 use Rattle.pc_state.specs.OpenJobs.{kept_job, open_job}
 use Rattle.pc_state.specs.State.{Knows, KnowsHeld, KnowsPart, PartKeeps, entries_of, is_kept_back}
 use Rattle.pc_state.proofs.SettleLemmas.{find-open_jobs}
 use Rattle.pc_state.proofs.StateLemmas.{entries-free, entries-held}
-
--- the job of a ticket, which is out and current
-pub record IsAtWork (given : Given) (h : List Event) (t p o : ℕ) : Type 0 where
-  pub job : Job
-  pub is : job_of h t ≡ Some job
-  pub out : In job (open_jobs h)
-  pub ticket : job.ticket ≡ t
-  pub part : job.part ≡ p
-  pub offset : job.offset ≡ o
-  pub epoch : job.epoch ≡ epoch_of h p
-  pub held : is_held h p ≡ true
 
 unsettled : (o : Option Job) (settled : Bool) (j : Job) → cond settled None o ≡ Some j → o ≡ Some j
 unsettled o true j is = cc
@@ -52,7 +42,7 @@ unsettled o false j is = is
 
 pub at-work : (given : Given) (h : List Event) (t p o : ℕ) (job : OpenJob)
     → option_map kept_job (open_job h t) ≡ Some job → job.part ≡ p → job.offset ≡ o
-    → job.epoch ≡ epoch_of h p → is_held h p ≡ true → IsAtWork given h t p o
+    → job.epoch ≡ epoch_of h p → is_held h p ≡ true → IsAtWork h t p o
 unfolding open_job
 at-work given h t p o job kept part offset epoch held =
     elim (option_cases (find (λ (j : Job). j.ticket == t) (open_jobs h))) [
@@ -82,7 +72,7 @@ pub record IsOpen (given : Given) (h : List Event) (p o : ℕ) : Type 0 where
   pub first : is_first_record given h p entry ≡ true
 
 pub open-at : (given : Given) (h : List Event) (t p o : ℕ) → IsLegal given h
-    → IsAtWork given h t p o
+    → IsAtWork h t p o
     → IsOpen given h p o
 open-at given h t p o legal work =
     let current : is_current h work.job ≡ true =

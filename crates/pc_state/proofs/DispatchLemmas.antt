@@ -1,5 +1,5 @@
 -- What a dispatch of the next record changes of a history.
-use Rattle.std.proofs.Common.{◌≡◌, ℕ, suc, ◌+◌, ◌≤◌, ◌<◌, Bool, true, false, not, ◌&&◌, ◌||◌, ◌==◌, List, [], ◌∷◌, map, length, Option, Some, None, refl, ap, sym, subst, ◌∙◌, arith, inl, inr, eq-eqb, get_or}
+use Rattle.std.proofs.Common.{◌≡◌, ℕ, ◌+◌, ◌≤◌, ◌<◌, Bool, true, false, not, ◌&&◌, ◌||◌, ◌==◌, List, [], ◌∷◌, map, length, Option, Some, None, refl, ap, sym, subst, ◌∙◌, arith, inl, inr, eq-eqb, get_or}
 use Rattle.std.specs.Prelude.{filter, find, nat_le}
 use Rattle.std.specs.List.{list_any}
 use Rattle.std.specs.Option.{unwrap_or}
@@ -14,7 +14,7 @@ use Rattle.pc_model.specs.Epochs.{epoch_of, is_held}
 use Rattle.pc_model.specs.Known.{is_complete, is_job_at, polled_records}
 use Rattle.pc_model.specs.Next.{is_eligible_record, next_record}
 use Rattle.pc_model.specs.OneMore.{SamePart}
-use Rattle.pc_model.specs.Retry.{count_one, failure_in, failures_in, failures_of, now_of, ready_of}
+use Rattle.pc_model.specs.Retry.{failures_of, now_of, ready_of}
 use Rattle.pc_model.proofs.JobLaws.{open_jobs-dispatch}
 use Rattle.pc_model.proofs.SamePart.{other_part}
 use Rattle.pc_model.proofs.ListLemmas.{filter-same}
@@ -26,8 +26,11 @@ use Rattle.pc_task.specs.Jobs.{PlainJob}
 use Rattle.pc_state.specs.declared.part.PartState.{PartState}
 use Rattle.pc_state.specs.declared.state.State.{State}
 use Rattle.pc_state.specs.Calls.{job_to_do, no_record}
-use Rattle.pc_state.specs.OpenJobs.{AreOpen, open_job}
-use Rattle.pc_state.proofs.LedgerLemmas.{counts-dispatch}
+use Rattle.pc_retry.specs.Waiting.{KeepsRooms, room_of}
+use Rattle.pc_state.specs.Ledger.{Counts}
+use Rattle.pc_state.specs.OpenJobs.{AreOpen, open_job, out_of}
+use Rattle.pc_state.proofs.OutLemmas.{out-dispatch, out-dispatch_other}
+use Rattle.pc_state.proofs.LedgerLemmas.{failures_of-le}
 use Rattle.pc_state.specs.State.{Knows, MayCome, PartKeeps, entries_of, is_early, is_kept_back, is_out, is_spent, is_waiting, waiting_of}
 use Rattle.pc_state.proofs.SettleLemmas.{find-open_jobs, job_of-above, unsettled-above}
 use Rattle.pc_state.proofs.StateLemmas.{AreWaiting-along, entries-held, entries-same, part-same, waiting-held, waiting-same}
@@ -114,16 +117,6 @@ job-due given h s worker p o part entry rules knows next part_is found rules_is 
     ∙ ap (λ (r : Option Record). unwrap_or r no_record) (sym (open-record given h p o knows.legal at)) in
     let own : rules ≡ given.setup.settings.rules = rules_is ∙ ap (λ setup. setup.settings.rules) (sym knows.setup) in
     rw (knows.dispatched, epoch, failures, record_is, own) refl
-
--- no record failed more often than there are events
-pub failures_of-le : (h : List Event) (p e o : ℕ) → failures_in h p e o ≤ length h
-failures_of-le [] p e o = omega arith
-failures_of-le (v ∷ h) p e o = more (failure_in v h p e o) (failures_in h p e o) (length h)
-    (failures_of-le h p e o)
-  where
-    more : (f : Option ℕ) (n k : ℕ) → n ≤ k → count_one f n ≤ suc k
-    more None n k le = omega (arith, le)
-    more (Some ready) n k le = omega (arith, le)
 
 pub failures-small : (given : Given) (h : List Event) (s : State) → Knows given h s → (p o : ℕ)
     → failures_of h p o ≤ 4000000
@@ -262,10 +255,10 @@ pub record AddsJob (old new : State) (p o : ℕ) : Type 0 where
   pub busy : of_part new.shards p ≡ with_busy o true (of_part old.shards p)
   pub others : (q : ℕ) → (q == p) ≡ false → of_part new.shards q ≡ of_part old.shards q
   pub retries : new.retries.retries ≡ old.retries.retries
+  pub rooms : KeepsRooms old.retries new.retries
   pub clock : new.clock ≡ old.clock
   pub dispatched : new.dispatched ≡ old.dispatched + 1
   pub last : new.last ≡ Some p
-  pub ledger : new.ledger ≡ old.ledger
 
 open-none : (h : List Event) (t : ℕ) → is_settled h t ≡ false → job_of h t ≡ None → open_job h t
     ≡ None
@@ -278,37 +271,47 @@ pub knows-dispatch : (given : Given) (h : List Event) (old new : State) (worker 
     (failures_of h p o + 1)) h
     → AddsJob old new p o → part ≡ get_or old.parts.items p part
     → Some entry ≡ find (λ e. e.record.offset == o) (of_part old.shards p)
-    → length (open_jobs h) + 1 ≤ new.retries.room
+    → length (open_jobs h) + 1 ≤ new.retries.room → out_of h p + 1 ≤ room_of new.retries p
+    → (is_settled h (dispatch_count h + 1) ≡ false → Counts given
+    (Dispatch (dispatch_count h + 1) worker p o (epoch_of h p) (failures_of h p o + 1) ∷ h) new.ledger)
     → (AreOpen h old.jobs → is_settled h (old.dispatched + 1) ≡ false
     → open_job h (old.dispatched + 1) ≡ None
     → AreOpen (Dispatch (old.dispatched + 1) worker p o part.epoch (entry.failures + 1) ∷ h) new.jobs)
     → Knows given
     (Dispatch (dispatch_count h + 1) worker p o (epoch_of h p) (failures_of h p o + 1) ∷ h) new
-knows-dispatch given h old new worker p o part entry knows next may adds part_is found room jobs = record {
-  setup = knows.setup ∙ sym adds.setup;
-  logs = knows.logs ∙ sym adds.logs;
-  legal = may.legal;
-  limit = may.limit;
-  count = ap length adds.items ∙ knows.count;
-  few = knows.few;
-  few_records = knows.few_records;
-  each = λ q d within. rw adds.items (part-same given h k q (get_or old.parts.items q d) (same q)
-      (knows.each q d within));
-  order = adds.order ∙ knows.order;
-  entries = entries;
-  waiting = rw adds.retries (AreWaiting-along given h k old.retries.retries waiting knows.waiting);
-  places = subst (λ (n : ℕ). n ≤ new.retries.room) (sym opened) room;
-  jobs = subst (λ (v : Event). AreOpen (v ∷ h) new.jobs) event_is (jobs knows.jobs
-      (subst (λ (n : ℕ). is_settled h n ≡ false) (sym ticket) fresh)
-      (subst (λ (n : ℕ). open_job h n ≡ None) (sym ticket)
-      (open-none h (dispatch_count h + 1) fresh
-      (job_of-above given h knows.legal (dispatch_count h + 1) above))));
-  clock = adds.clock ∙ knows.clock;
-  dispatched = adds.dispatched ∙ ap (λ (n : ℕ). n + 1) knows.dispatched ∙ counted;
-  last = adds.last;
-  ledger = rw adds.ledger (counts-dispatch given h (dispatch_count h + 1) worker p o (epoch_of h p)
-      (failures_of h p o + 1) old.ledger knows.ledger);
-}
+knows-dispatch given h old new worker p o part entry knows next may adds part_is found room part_room
+    counts jobs = record {
+      setup = knows.setup ∙ sym adds.setup;
+      logs = knows.logs ∙ sym adds.logs;
+      legal = may.legal;
+      limit = may.limit;
+      count = ap length adds.items ∙ knows.count;
+      few = knows.few;
+      few_records = knows.few_records;
+      each = λ q d within. rw adds.items (part-same given h k q (get_or old.parts.items q d) (same q)
+          (knows.each q d within));
+      order = adds.order ∙ knows.order;
+      entries = entries;
+      waiting = rw adds.retries (AreWaiting-along given h k old.retries.retries waiting knows.waiting);
+      places = subst (λ (n : ℕ). n ≤ new.retries.room) (sym opened) room;
+      part_places = λ q held_then. elim (cases_Bool (p == q)) [
+        | inl at ↦ subst (λ (u : ℕ). out_of k u ≤ room_of new.retries u) (eqb-true p q at)
+            (rw (out-dispatch h (dispatch_count h + 1) worker p o (epoch_of h p) (failures_of h p o + 1)
+            fresh refl) part_room)
+        | inr apart ↦ rw (out-dispatch_other h (dispatch_count h + 1) worker p o (epoch_of h p)
+            (failures_of h p o + 1) fresh q apart)
+            (let le = knows.part_places q held_then in let more = adds.rooms q in omega (arith, le, more))
+      ];
+      jobs = subst (λ (v : Event). AreOpen (v ∷ h) new.jobs) event_is (jobs knows.jobs
+          (subst (λ (n : ℕ). is_settled h n ≡ false) (sym ticket) fresh)
+          (subst (λ (n : ℕ). open_job h n ≡ None) (sym ticket)
+          (open-none h (dispatch_count h + 1) fresh
+          (job_of-above given h knows.legal (dispatch_count h + 1) above))));
+      clock = adds.clock ∙ knows.clock;
+      dispatched = adds.dispatched ∙ ap (λ (n : ℕ). n + 1) knows.dispatched ∙ counted;
+      last = adds.last;
+      ledger = counts fresh;
+    }
   where
     k : List Event
     k = Dispatch (dispatch_count h + 1) worker p o (epoch_of h p) (failures_of h p o + 1) ∷ h

@@ -27,8 +27,10 @@ use Rattle.pc_shards.proofs.Lists.{AllByRecursion-each}
 use Rattle.pc_state.specs.declared.part.HeldPart.{HeldPart}
 use Rattle.pc_state.specs.declared.part.PartState.{PartState}
 use Rattle.pc_state.specs.declared.state.State.{State}
-use Rattle.pc_state.specs.OpenJobs.{AreOpen, open_job}
-use Rattle.pc_state.proofs.LedgerLemmas.{counts-failure}
+use Rattle.pc_retry.specs.Waiting.{room_of}
+use Rattle.pc_state.specs.OpenJobs.{AreOpen, open_job, out_of}
+use Rattle.pc_state.specs.Ledger.{Counts}
+use Rattle.pc_state.proofs.OutLemmas.{out-settled, out-settled_other}
 use Rattle.pc_state.specs.State.{AreWaiting, Knows, KnowsPart, MayCome, PartKeeps, entries_of, is_early, is_kept_back, is_out, is_spent, same_place, waiting_of}
 use Rattle.pc_state.proofs.SettleLemmas.{open_jobs-failure}
 use Rattle.pc_state.proofs.StateLemmas.{entries-held, entries-same, waiting-same}
@@ -36,12 +38,12 @@ use Rattle.pc_state.proofs.RetryLemmas.{In-permuted, same_place-flips}
 use Rattle.pc_state.proofs.AtWork.{IsAtWork, IsOpen, open-at}
 use Rattle.pc_state.proofs.ResultLemmas.{is_out-settled, job-at-none, open-outstanding}
 use Rattle.pc_state.proofs.WaitingLemmas.{IsWaitingFor, Waits, In-waiting, entries-each, entries-failed, entries-freed, true-waits, waiting-In, waiting-facts, waits-true}
-use Rattle.pc_state.proofs.WorkLemmas.{at-only, work-at, work-job, work-only, work-out}
+use Rattle.pc_state.proofs.WorkLemmas.{at-only, work-at, work-job, work-only, work-other_part, work-out}
 
 -- ---- what a failure leaves as it was
 
 module _ (given : Given) (h : List Event) (t p o code ready : ℕ) (legal : IsLegal given h)
-    (work : IsAtWork given h t p o) where
+    (work : IsAtWork h t p o) where
   abbrev after : List Event
   after = Failure t code ready ∷ h
 
@@ -149,7 +151,7 @@ module _ (given : Given) (h : List Event) (t p o code ready : ℕ) (legal : IsLe
 -- ---- the entries of the part
 
 module _ (given : Given) (h : List Event) (t p o code ready : ℕ) (legal : IsLegal given h)
-    (work : IsAtWork given h t p o) where
+    (work : IsAtWork h t p o) where
   -- the records that are open are the same
   failure-entries : entries_of given (Failure t code ready ∷ h) p
       ≡ map (entry_of (λ r. is_kept_back given (Failure t code ready ∷ h) p r.offset)
@@ -228,10 +230,11 @@ pub record Fails (old new : State) (p o ready : ℕ) (spent early : Bool) : Type
       (record { ready_at = ready; part = p; offset = o } ∷ old.retries.retries) new.retries.retries
   pub stays : (not spent && early) ≡ false → new.retries.retries ≡ old.retries.retries
   pub room : old.retries.room ≤ new.retries.room + 1
+  pub part_room : room_of old.retries p ≤ room_of new.retries p + 1
+  pub rooms : (q : ℕ) → (q == p) ≡ false → room_of new.retries q ≡ room_of old.retries q
   pub clock : new.clock ≡ old.clock
   pub dispatched : new.dispatched ≡ old.dispatched
   pub last : new.last ≡ old.last
-  pub ledger : new.ledger ≡ old.ledger
 
 -- what is known of the parts is the same
 failure-knows : (given : Given) (h : List Event) (t code ready q : ℕ) (held : Option HeldPart)
@@ -261,7 +264,7 @@ kept-cases true b c d none is = cc
 kept-cases false b c d none is = is
 
 module _ (given : Given) (h : List Event) (t p o code ready : ℕ) (old new : State)
-    (spent early : Bool) (knows : Knows given h old) (work : IsAtWork given h t p o)
+    (spent early : Bool) (knows : Knows given h old) (work : IsAtWork h t p o)
     (fails : Fails old new p o ready spent early)
     (spent_is : spent ≡ is_spent given (Failure t code ready ∷ h) p o)
     (early_is : early ≡ is_early (Failure t code ready ∷ h) p o) where
@@ -441,8 +444,9 @@ module _ (given : Given) (h : List Event) (t p o code ready : ℕ) (old new : St
       → ((u : ℕ) → settles (Failure t code ready) u ≡ (t == u))
       → length (open_jobs (Failure t code ready ∷ h)) + 1 ≡ length (open_jobs h)
       → AreOpen (Failure t code ready ∷ h) new.jobs)
+      → Counts given (Failure t code ready ∷ h) new.ledger
       → Knows given (Failure t code ready ∷ h) new
-  knows-failure may jobs = record {
+  knows-failure may jobs counts = record {
     setup = knows.setup ∙ sym fails.setup;
     logs = knows.logs ∙ sym fails.logs;
     legal = may.legal;
@@ -459,10 +463,26 @@ module _ (given : Given) (h : List Event) (t p o code ready : ℕ) (old new : St
     places = room-left (length (open_jobs later)) (length (open_jobs h)) old.retries.room
         new.retries.room (open_jobs-failure given h knows.legal t may.legal.0.outstanding code ready)
         knows.places fails.room;
+    part_places = λ q held. elim (cases_Bool (p == q)) [
+      | inl same ↦ subst (λ (u : ℕ). out_of later u ≤ room_of new.retries u) (eqb-true p q same)
+          (let less = out-settled given h knows.legal t p o work (Failure t code ready) refl (λ u. refl)
+          refl in
+          let le = knows.part_places p work.held in
+          let room = fails.part_room in omega (arith, less, le, room))
+      | inr apart ↦
+          let other : (q == p) ≡ false = ne_eqb q p (λ (e : q ≡ p). true-not-false (p == q)
+          (eq-eqb p q (sym e)) apart) in
+          rw (
+            out-settled_other (Failure t code ready) h t q refl (λ u. refl) refl
+                (work-other_part given h t p o knows.legal work q apart),
+            fails.rooms q other,
+          )
+          (knows.part_places q held)
+    ];
     clock = fails.clock ∙ knows.clock;
     jobs = jobs (open-outstanding h t may.legal.0.outstanding) refl (λ u. refl)
         (open_jobs-failure given h knows.legal t may.legal.0.outstanding code ready);
     dispatched = fails.dispatched ∙ knows.dispatched;
     last = fails.last ∙ knows.last;
-    ledger = rw fails.ledger (counts-failure given h t code ready old.ledger knows.ledger);
+    ledger = counts;
   }

@@ -59,7 +59,7 @@ entry_at-has o es e found = let at = In-find (λ (x : Entry). x.record.offset ==
     list_any-In (λ (x : Entry). x.record.offset == o) e es at.0 at.1
 
 module _ (given : Given) (h : List Event) (t p o code ready : ℕ) (s : State)
-    (knows : Knows given h s) (work : IsAtWork given h t p o) (es : List Entry)
+    (knows : Knows given h s) (work : IsAtWork h t p o) (es : List Entry)
     (failed_once : es ≡ with_failure o (of_part s.shards p)) where
   entry-then : (e : Entry) × (entry_at o es ≡ Some e) × (e.failures ≡ failures_of h p o + 1)
   entry-then =
@@ -99,7 +99,7 @@ early-false ready clock come = grind (arith, nat_tests)
 
 -- there is a place for the retry
 pub place-there : (given : Given) (h : List Event) (t p o : ℕ) (s : State) → Knows given h s
-    → IsAtWork given h t p o → 0 < s.retries.room
+    → IsAtWork h t p o → 0 < s.retries.room
 place-there given h t p o s knows work = omega (arith, knows.places, some (open_jobs h) work.out)
   where
     some : (js : List Job) → In work.job js → 0 < length js

@@ -1,5 +1,12 @@
 pub mod StateLemmas
 mod LedgerLemmas
+mod OutLemmas
+mod DueLaw
+mod PartsLemmas
+mod OpenLemmas
+mod NextTime
+mod PollOpen
+mod RestLemmas
 mod PhaseLemmas
 mod StoredLemmas
 mod UnfinishedLemmas

@@ -31,10 +31,13 @@ use Rattle.pc_shards.specs.OpenEntries.{entry_of}
 use Rattle.pc_state.specs.declared.part.HeldPart.{HeldPart}
 use Rattle.pc_state.specs.declared.part.PartState.{PartState}
 use Rattle.pc_state.specs.declared.state.State.{State}
+use Rattle.pc_retry.specs.Waiting.{room_of}
 use Rattle.pc_state.specs.Ledger.{Counts}
+use Rattle.pc_state.specs.OpenJobs.{out_of}
 use Rattle.pc_state.specs.State.{Knows, KnowsHeld, KnowsPart, MayCome, PartKeeps, entries_of, is_early, is_kept_back, is_out, is_spent, is_waiting, sized, waiting_of, with_size}
 use Rattle.pc_state.proofs.AssignLemmas.{marks_of-assign, unpolled-begin}
 use Rattle.pc_state.proofs.OpenJobsLemmas.{AreOpen-along}
+use Rattle.pc_state.proofs.OutLemmas.{out-along, out-assign}
 use Rattle.pc_state.proofs.StateLemmas.{AreWaiting-along, each-set, entries-free, entries-held, entries-same, is_out-same, stands-along, waiting-free, waiting-held, waiting-same}
 
 -- a state of which one part is another
@@ -57,9 +60,11 @@ knows-part : (given : Given) (h : List Event) (v : Event) (old new : State) (p :
     → jobs_of (v ∷ h) ≡ jobs_of h → open_jobs (v ∷ h) ≡ open_jobs h
     → now_of (v ∷ h) ≡ now_of h → ((q : ℕ) → entries_of given (v ∷ h) q ≡ entries_of given h q)
     → ((q : ℕ) → waiting_of given (v ∷ h) q ≡ waiting_of given h q)
-    → Counts given (v ∷ h) new.ledger → Knows given (v ∷ h) new
+    → Counts given (v ∷ h) new.ledger
+    → ((q : ℕ) → is_held (v ∷ h) q ≡ true → out_of (v ∷ h) q ≤ room_of old.retries q)
+    → Knows given (v ∷ h) new
 knows-part given h v old new p part knows may puts below keeps others jobs same_open now entries
-    waiting counts = record {
+    waiting counts part_places = record {
       setup = knows.setup ∙ sym puts.setup;
       logs = knows.logs ∙ sym puts.logs;
       legal = may.legal;
@@ -75,6 +80,7 @@ knows-part given h v old new p part knows may puts below keeps others jobs same_
       entries = λ q. rw puts.shards (knows.entries q ∙ sym (entries q));
       waiting = rw puts.retries (AreWaiting-along given h (v ∷ h) old.retries.retries waiting knows.waiting);
       places = rw (puts.retries, same_open) knows.places;
+      part_places = λ q held. rw puts.retries (part_places q held);
       clock = puts.clock ∙ knows.clock ∙ sym now;
       jobs = rw puts.jobs (AreOpen-along h (v ∷ h) old.jobs same_open knows.jobs);
       dispatched = puts.dispatched ∙ knows.dispatched ∙ ap length (sym jobs);
@@ -153,7 +159,15 @@ knows-assigned given h old new p stored part window rest knows may below puts ep
     refl refl refl
     (λ q. entries-assign given h p (epoch_of h p + 1) stored.position stored.map q may.legal.0.free)
     (λ q. waiting-assign given h p (epoch_of h p + 1) stored.position stored.map q may.legal.0.free)
-    counts
+    counts (λ q held_then. elim (cases_Bool (p == q)) [
+      | inl same ↦ rw (
+        sym (eqb-true p q same),
+        out-assign given h p (epoch_of h p + 1) stored.position
+            stored.map knows.legal,
+      ) (omega arith)
+      | inr apart ↦ rw (out-along h (Assign p (epoch_of h p + 1) stored.position stored.map ∷ h) q refl
+          (rw apart refl)) (knows.part_places q (rw apart at held_then))
+    ])
   where
     size-assign : (h : List Event) (p epoch position : ℕ) (text : List ℕ)
         → last_size (Assign p epoch position text ∷ h) p ≡ None
@@ -193,7 +207,8 @@ module _ (given : Given) (h : List Event) (old new : State) (p position size : �
             (simp (same_number p)) keeps.knows;
       })
       (λ q apart. other_part given q (Committed p position text size) h apart) refl refl refl (λ q. refl)
-      (λ q. refl) counts
+      (λ q. refl) counts (λ q held. rw (out-along h (Committed p position text size ∷ h) q refl refl)
+      (knows.part_places q held))
 
   pub knows-failed : MayCome given (CommitFailed p position text size) h
       → Counts given (CommitFailed p position text size ∷ h) new.ledger
@@ -208,7 +223,8 @@ module _ (given : Given) (h : List Event) (old new : State) (p position size : �
             (simp (same_number p)) keeps.knows;
       })
       (λ q apart. other_part given q (CommitFailed p position text size) h apart) refl refl refl (λ q. refl)
-      (λ q. refl) counts
+      (λ q. refl) counts (λ q held. rw (out-along h (CommitFailed p position text size ∷ h) q refl refl)
+      (knows.part_places q held))
 
 -- ---- what a state says of one part
 

@@ -13,6 +13,7 @@ use Rattle.pc_state.specs.declared.state.State.{State}
 use Rattle.pc_state.specs.Ledger.{Counts}
 use Rattle.pc_state.specs.State.{Knows, MayCome}
 use Rattle.pc_state.proofs.OpenJobsLemmas.{AreOpen-along}
+use Rattle.pc_state.proofs.OutLemmas.{out-along}
 use Rattle.pc_state.proofs.StateLemmas.{AreWaiting-along, entries-same, is_out-same, part-same, waiting-same}
 
 -- an event that says nothing of any part nor of any job
@@ -40,6 +41,9 @@ knows-quiet given h v s ledger knows may untouched jobs same_open now last count
       waiting-same given h (v ∷ h) q same now
       (λ held o. is_out-same h (v ∷ h) q o same_open same.epoch)) knows.waiting;
   places = rw same_open knows.places;
+  part_places = λ q held. let same = other_part given q v h (untouched q) in
+      rw (out-along h (v ∷ h) q same_open same.epoch)
+      (knows.part_places q (sym same.held ∙ held));
   clock = knows.clock ∙ sym now;
   jobs = AreOpen-along h (v ∷ h) s.jobs same_open knows.jobs;
   dispatched = knows.dispatched ∙ ap length (sym jobs);

@@ -33,6 +33,7 @@ use Rattle.pc_state.specs.declared.part.PartState.{PartState}
 use Rattle.pc_state.specs.declared.state.State.{State}
 use Rattle.pc_state.specs.Polls.{AreNextRecords, IsPolled, is_open_in, new_entries}
 use Rattle.pc_state.proofs.LedgerLemmas.{counts-poll}
+use Rattle.pc_state.proofs.OutLemmas.{out-along}
 use Rattle.pc_state.specs.State.{Knows, KnowsHeld, MayCome, PartKeeps, entries_of, is_early, is_kept_back, is_out, is_spent, is_waiting, waiting_of}
 use Rattle.pc_state.proofs.OpenJobsLemmas.{AreOpen-along}
 use Rattle.pc_state.proofs.PartEvents.{held-has_log, log-below}
@@ -362,6 +363,10 @@ module _ (given : Given) (h : List Event) (old : State) (p last : ℕ)
           waiting = rw retries (AreWaiting-along given h (Poll p (length records) last ∷ h)
               old.retries.retries waiting-same-all knows.waiting);
           places = rw retries knows.places;
+          part_places = λ q held_q. rw (
+            retries,
+            out-along h (Poll p (length records) last ∷ h) q refl refl,
+          ) (knows.part_places q held_q);
           clock = now ∙ knows.clock;
           jobs = rw jobs (AreOpen-along h (Poll p (length records) last ∷ h) old.jobs refl knows.jobs);
           dispatched = dispatched ∙ knows.dispatched;

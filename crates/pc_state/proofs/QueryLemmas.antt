@@ -53,11 +53,6 @@ pub read-none : (o : Option (List Record)) (f : List Record → List Record) →
 read-none None f is some = cc
 read-none (Some log) f is some = cc
 
--- the first record that was not polled
-pub first-left : (unpolled left rest : List Record) (r : Record) → unpolled ≡ left → left ≡ r ∷ rest
-    → Some r.offset ≡ option_map (λ (r : Record). r.offset) (slice_get unpolled 0)
-first-left unpolled left rest r same is = rw (same, is) refl
-
 -- no log has more records than all together
 log-total : (logs : List (Option (List Record))) (p : ℕ)
     → length (unwrap_or (option_flatten (slice_get logs p)) []) ≤ record_total logs
@@ -98,6 +93,7 @@ knows-start given s setup logs rise few total items order empty retries jobs now
     once = subst (λ (ws : List Retry). IsDistinct same_place ws) (sym retries) distinct-none;
   };
   places = omega arith;
+  part_places = λ p held. let out : false ≡ true = held in cc out;
   clock = now;
   jobs = jobs [] refl;
   dispatched = dispatched;

@@ -21,7 +21,8 @@ use Rattle.pc_shards.specs.Entries.{of_part}
 use Rattle.pc_state.specs.declared.part.HeldPart.{HeldPart}
 use Rattle.pc_state.specs.declared.part.PartState.{PartState}
 use Rattle.pc_state.specs.declared.state.State.{State}
-use Rattle.pc_state.proofs.LedgerLemmas.{counts-lost, counts-revoke}
+use Rattle.pc_retry.specs.Waiting.{room_of}
+use Rattle.pc_state.proofs.OutLemmas.{out-along}
 use Rattle.pc_state.specs.Ledger.{Counts}
 use Rattle.pc_state.specs.State.{AreReleased, AreWaiting, Knows, KnowsPart, MayCome, PartKeeps, entries_of, same_place, waiting_of}
 use Rattle.pc_state.proofs.OpenJobsLemmas.{AreOpen-along}
@@ -61,11 +62,11 @@ pub record Releases (old new : State) (p : ℕ) (part : PartState) : Type 0 wher
   pub others : (q : ℕ) → (q == p) ≡ false → of_part new.shards q ≡ of_part old.shards q
   pub retries : IsPermutation (filter (λ w. not (w.part == p)) old.retries.retries) new.retries.retries
   pub room : old.retries.room ≤ new.retries.room
+  pub rooms : (q : ℕ) → (q == p) ≡ false → room_of new.retries q ≡ room_of old.retries q
   pub jobs : new.jobs ≡ old.jobs
   pub clock : new.clock ≡ old.clock
   pub dispatched : new.dispatched ≡ old.dispatched
   pub last : new.last ≡ old.last
-  pub ledger : new.ledger ≡ old.ledger
 
 module _ (given : Given) (h : List Event) (v : Event) (old new : State) (p : ℕ) (part : PartState)
     (knows : Knows given h old) (releases : Releases old new p part) (below : p < length given.logs)
@@ -73,7 +74,7 @@ module _ (given : Given) (h : List Event) (v : Event) (old new : State) (p : ℕ
     (epoch : epoch_of (v ∷ h) p ≡ epoch_of h p + 1) (free : is_held (v ∷ h) p ≡ false)
     (others : (q : ℕ) → (p == q) ≡ false → SamePart given q h (v ∷ h))
     (jobs : jobs_of (v ∷ h) ≡ jobs_of h) (same_open : open_jobs (v ∷ h) ≡ open_jobs h)
-    (now : now_of (v ∷ h) ≡ now_of h) (counts : Counts given (v ∷ h) old.ledger) where
+    (now : now_of (v ∷ h) ≡ now_of h) (counts : Counts given (v ∷ h) new.ledger) where
   entries : (q : ℕ) → of_part new.shards q ≡ entries_of given (v ∷ h) q
   entries q = elim (cases_Bool (q == p)) [
     | inl same ↦ subst (λ (u : ℕ). of_part new.shards u ≡ entries_of given (v ∷ h) u)
@@ -133,12 +134,19 @@ module _ (given : Given) (h : List Event) (v : Event) (old new : State) (p : ℕ
     waiting = waiting;
     places = fits (length (open_jobs (v ∷ h))) (length (open_jobs h)) old.retries.room
         new.retries.room (ap length same_open) knows.places releases.room;
+    part_places = λ q held. elim (cases_Bool (q == p)) [
+      | inl same ↦ true-not-false (is_held (v ∷ h) q) held
+          (ap (is_held (v ∷ h)) (eqb-true q p same) ∙ free)
+      | inr apart ↦ let other = others q (flip p q apart) in
+          rw (out-along h (v ∷ h) q same_open other.epoch, releases.rooms q apart)
+          (knows.part_places q (sym other.held ∙ held))
+    ];
     clock = releases.clock ∙ knows.clock ∙ sym now;
     jobs = rw releases.jobs (AreOpen-along h (v ∷ h) old.jobs same_open knows.jobs);
     dispatched = releases.dispatched ∙ knows.dispatched ∙ ap length (sym jobs);
     last = releases.last ∙ knows.last
         ∙ ap (λ (js : List Job). option_map (λ j. j.part) (slice_get js 0)) (sym jobs);
-    ledger = rw releases.ledger counts;
+    ledger = counts;
   }
 
 module _ (given : Given) (h : List Event) (old new : State) (p : ℕ) (part : PartState)
@@ -148,18 +156,18 @@ module _ (given : Given) (h : List Event) (old new : State) (p : ℕ) (part : Pa
   below = log-below given.logs p (held-has_log given h p knows.legal held)
 
   pub knows-lost : MayCome given (Lost p (epoch_of h p)) h
+      → Counts given (Lost p (epoch_of h p) ∷ h) new.ledger
       → Knows given (Lost p (epoch_of h p) ∷ h) new
-  knows-lost may = knows-released given h (Lost p (epoch_of h p)) old new p part knows releases
+  knows-lost may counts = knows-released given h (Lost p (epoch_of h p)) old new p part knows releases
       below over none may (epoch_of-lost h p (epoch_of h p)) (is_held-lost h p (epoch_of h p))
-      (λ q apart. other_part given q (Lost p (epoch_of h p)) h apart) refl refl refl
-      (counts-lost given h p (epoch_of h p) old.ledger knows.ledger)
+      (λ q apart. other_part given q (Lost p (epoch_of h p)) h apart) refl refl refl counts
 
   pub knows-revoked : MayCome given (Revoke p (epoch_of h p)) h
+      → Counts given (Revoke p (epoch_of h p) ∷ h) new.ledger
       → Knows given (Revoke p (epoch_of h p) ∷ h) new
-  knows-revoked may = knows-released given h (Revoke p (epoch_of h p)) old new p part knows releases
+  knows-revoked may counts = knows-released given h (Revoke p (epoch_of h p)) old new p part knows releases
       below over none may (epoch_of-revoke h p (epoch_of h p)) (is_held-revoke h p (epoch_of h p))
-      (λ q apart. other_part given q (Revoke p (epoch_of h p)) h apart) refl refl refl
-      (counts-revoke given h p (epoch_of h p) old.ledger knows.ledger)
+      (λ q apart. other_part given q (Revoke p (epoch_of h p)) h apart) refl refl refl counts
 
 -- ---- a crash
 
@@ -210,6 +218,7 @@ knows-crashed given h old new knows crashes may counts = record {
   };
   places = fits (length (open_jobs (Crash ∷ h))) (length (open_jobs h)) old.retries.room
       new.retries.room refl knows.places crashes.room;
+  part_places = λ q held. let out : false ≡ true = held in cc out;
   clock = crashes.clock ∙ knows.clock;
   jobs = rw crashes.jobs (AreOpen-along h (Crash ∷ h) old.jobs refl knows.jobs);
   dispatched = crashes.dispatched ∙ knows.dispatched;

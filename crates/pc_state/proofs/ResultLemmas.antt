@@ -17,7 +17,8 @@ use Rattle.pc_laws.specs.Lists.{In}
 use Rattle.pc_laws.proofs.Lists.{In-filtered, and-left, and-right, not-false, true-not-false}
 use Rattle.pc_laws.proofs.StaleLaw.{job_of-In}
 use Rattle.pc_state.specs.declared.state.State.{State}
-use Rattle.pc_state.specs.OpenJobs.{AreOpen, open_job}
+use Rattle.pc_state.specs.OpenJobs.{AreOpen, is_job_of, open_job}
+use Rattle.pc_state.proofs.OutLemmas.{out-settled_other}
 use Rattle.pc_state.proofs.LedgerLemmas.{counts-stale}
 use Rattle.pc_state.specs.State.{Knows, MayCome, is_out}
 use Rattle.pc_state.proofs.SettleLemmas.{open_jobs-stale, outstanding-find}
@@ -74,6 +75,19 @@ module _ (given : Given) (h : List Event) (t : ℕ) (legal : IsLegal given (Stal
       (jobs_of h) i).0) in
       rw of at legal.0.past
 
+  -- it is of no part's present epoch
+  pub stale-job : (p : ℕ) → is_held h p ≡ true → (j : Job) → In j (open_jobs h) → j.ticket ≡ t
+      → is_job_of p (epoch_of h p) j ≡ false
+  stale-job p held j i ticket = elim (cases_Bool (is_job_of p (epoch_of h p) j)) [
+    | inr none ↦ none
+    | inl own ↦
+        let part : j.part ≡ p = eqb-true j.part p (and-left (j.part == p) _ own) in
+        let held_there : is_held h j.part ≡ true = ap (λ (q : ℕ). is_held h q) part ∙ held in
+        let epoch : (j.epoch == epoch_of h j.part) ≡ true =
+        ap (λ (q : ℕ). j.epoch == epoch_of h q) part ∙ and-right (j.part == p) _ own in
+        true-not-false (is_current h j) (rw (held_there, epoch) refl) (stale-past j i ticket)
+  ]
+
   stale-out : (p : ℕ) → is_held h p ≡ true → (o : ℕ) → is_out (Stale t ∷ h) p o ≡ is_out h p o
   stale-out p held o = is_out-settled (Stale t) h t p o refl (λ u. refl) refl
       (λ j i ticket. job-at-none j p (epoch_of h p) o (λ at.
@@ -125,10 +139,16 @@ knows-stale given h t old new knows may drops jobs = record {
       (stale-out given h t may.legal q)) knows.waiting);
   places = rw drops.retries (fewer-places (length (open_jobs (Stale t ∷ h))) (length (open_jobs h))
       old.retries.room (open_jobs-stale given h knows.legal t may.legal.0.outstanding) knows.places);
+  part_places = λ q held. rw (
+    drops.retries,
+    out-settled_other (Stale t) h t q refl (λ u. refl) refl
+        (stale-job given h t may.legal q held),
+  ) (knows.part_places q held);
   clock = drops.clock ∙ knows.clock;
   jobs = jobs (open-outstanding h t may.legal.0.outstanding) refl (λ u. refl)
       (open_jobs-stale given h knows.legal t may.legal.0.outstanding);
   dispatched = drops.dispatched ∙ knows.dispatched;
   last = drops.last ∙ knows.last;
-  ledger = rw drops.ledger (counts-stale given h t old.ledger knows.ledger);
+  ledger = rw drops.ledger (counts-stale given h t old.ledger (stale-job given h t may.legal)
+      knows.ledger);
 }

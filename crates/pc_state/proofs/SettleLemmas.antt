@@ -17,7 +17,7 @@ use Rattle.pc_laws.proofs.JobsLaw.{job-of}
 -- ---- jobs whose tickets count down to 1
 
 -- each job's ticket says how many jobs there are from it on
-abbrev Falls : List Job → Type 0
+abbrev pub Falls : List Job → Type 0
 Falls [] = Unit {0}
 Falls (j ∷ js) = (j.ticket ≡ length js + 1) × Falls js
 
@@ -76,7 +76,7 @@ all-stay f t (j ∷ js) falls above =
     ]
 
 -- one job is, where it passes the test
-one-goes : (f : Job → Bool) (t : ℕ) (j : Job) (js : List Job) → Falls js → In j js
+pub one-goes : (f : Job → Bool) (t : ℕ) (j : Job) (js : List Job) → Falls js → In j js
     → j.ticket ≡ t → f j ≡ true
     → length (filter (λ k. not (t == k.ticket)) (filter f js)) + 1 ≡ length (filter f js)
 one-goes f t j [] falls i at passes = absurd i
@@ -98,7 +98,7 @@ one-goes f t j (k ∷ ks) falls (inr i) at passes =
 
 -- ---- the jobs of a legal history
 
-jobs-fall : (given : Given) (h : List Event) → IsLegal given h → Falls (jobs_of h)
+pub jobs-fall : (given : Given) (h : List Event) → IsLegal given h → Falls (jobs_of h)
 jobs-fall given [] legal = tt
 jobs-fall given (Dispatch t w p o e a ∷ h) legal =
     (legal.0.ticket_is, jobs-fall given h legal.2)

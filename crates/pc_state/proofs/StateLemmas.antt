@@ -84,7 +84,7 @@ pub failures-same : (given : Given) (h k : List Event) (p o : ℕ) → SamePart 
 failures-same given h k p o same = same.failures (epoch_of k p) o
     ∙ ap (λ (e : ℕ). failures_in h p e o) same.epoch
 
-ready-same : (given : Given) (h k : List Event) (p o : ℕ) → SamePart given p h k
+pub ready-same : (given : Given) (h k : List Event) (p o : ℕ) → SamePart given p h k
     → ready_of k p o ≡ ready_of h p o
 ready-same given h k p o same = same.ready (epoch_of k p) o
     ∙ ap (λ (e : ℕ). ready_in h p e o) same.epoch

@@ -1,5 +1,5 @@
 -- What a success changes of a history.
-use Rattle.std.proofs.Common.{◌≡◌, ℕ, ◌+◌, ◌<◌, Bool, true, false, not, ◌&&◌, ◌||◌, ◌==◌, List, [], ◌∷◌, map, length, set, Option, Some, refl, ap, sym, subst, ◌∙◌, arith, inl, inr, eq-eqb, get_or, length-set}
+use Rattle.std.proofs.Common.{◌≤◌, ◌≡◌, ℕ, ◌+◌, ◌<◌, Bool, true, false, not, ◌&&◌, ◌||◌, ◌==◌, List, [], ◌∷◌, map, length, set, Option, Some, refl, ap, sym, subst, ◌∙◌, arith, inl, inr, eq-eqb, get_or, length-set}
 use Rattle.std.specs.Prelude.{filter, is_some}
 use Rattle.std.proofs.lemmas.Bool.{cases_Bool, eqb-true, ne_eqb}
 use Rattle.pc_model.specs.declared.event.Event.{Event}
@@ -24,17 +24,19 @@ use Rattle.pc_cursor.specs.declared.cursor.Cursor.{Cursor}
 use Rattle.pc_state.specs.declared.part.HeldPart.{HeldPart}
 use Rattle.pc_state.specs.declared.part.PartState.{PartState}
 use Rattle.pc_state.specs.declared.state.State.{State}
-use Rattle.pc_state.specs.OpenJobs.{AreOpen, open_job}
+use Rattle.pc_retry.specs.Waiting.{room_of}
+use Rattle.pc_state.specs.OpenJobs.{AreOpen, open_job, out_of}
+use Rattle.pc_state.proofs.OutLemmas.{out-settled, out-settled_other}
 use Rattle.pc_state.specs.Ledger.{Counts}
 use Rattle.pc_state.specs.State.{Knows, KnowsHeld, KnowsPart, MayCome, PartKeeps, entries_of, is_early, is_kept_back, is_out, is_spent, is_waiting, waiting_of}
 use Rattle.pc_state.proofs.SettleLemmas.{open_jobs-success}
 use Rattle.pc_state.proofs.StateLemmas.{AreWaiting-along, each-set, entries-held, entries-same, waiting-held, waiting-same}
 use Rattle.pc_state.proofs.AtWork.{IsAtWork, held-known}
-use Rattle.pc_state.proofs.WorkLemmas.{work-job, work-only, work-out}
+use Rattle.pc_state.proofs.WorkLemmas.{work-job, work-only, work-other_part, work-out}
 use Rattle.pc_state.proofs.ResultLemmas.{fewer-places, is_out-settled, job-at-none, open-outstanding}
 
 module _ (given : Given) (h : List Event) (t p o : ℕ) (answer : List ℕ) (legal : IsLegal given h)
-    (work : IsAtWork given h t p o) where
+    (work : IsAtWork h t p o) where
   success-other_part : (q : ℕ) → (p == q) ≡ false → SamePart given q h (Success t answer ∷ h)
   success-other_part q apart = other_part given q (Success t answer) h
       (rw (work-job given h t p o legal work)
@@ -84,7 +86,7 @@ module _ (given : Given) (h : List Event) (t p o : ℕ) (answer : List ℕ) (leg
 
 -- of another offset it is the same whether it may be dispatched, and whether it waits
 module _ (given : Given) (h : List Event) (t p o : ℕ) (answer : List ℕ) (legal : IsLegal given h)
-    (work : IsAtWork given h t p o) where
+    (work : IsAtWork h t p o) where
   success-kept_back : (u : ℕ) → (u == o) ≡ false
       → is_kept_back given (Success t answer ∷ h) p u ≡ is_kept_back given h p u
   unfolding is_kept_back is_spent is_early
@@ -152,7 +154,7 @@ entries-without o f g a b n (r ∷ rs) done busy = let more = entries-without o 
 
 -- the entry of the success goes
 entries-success : (given : Given) (h : List Event) (t p o : ℕ) (answer : List ℕ) → IsLegal given h
-    → IsAtWork given h t p o
+    → IsAtWork h t p o
     → entries_of given (Success t answer ∷ h) p ≡ without o (entries_of given h p)
 unfolding polled_records
 entries-success given h t p o answer legal work =
@@ -167,7 +169,7 @@ entries-success given h t p o answer legal work =
 -- what is known of the part then
 success-known : (given : Given) (h : List Event) (t p o : ℕ) (answer : List ℕ)
     (held next : HeldPart)
-    → IsLegal given h → IsAtWork given h t p o → KnowsHeld given h p held
+    → IsLegal given h → IsAtWork h t p o → KnowsHeld given h p held
     → StandsFor next.window.window (begin_of h p) (polled_count h p)
     (with_complete o (marks_of given h p))
     → next.rest ≡ held.rest → next.size ≡ held.size → KnowsHeld given (Success t answer ∷ h) p next
@@ -195,7 +197,7 @@ pub record Completes (old new : State) (p o : ℕ) (part : PartState) : Type 0 w
 
 pub knows-success : (given : Given) (h : List Event) (t p o : ℕ) (answer : List ℕ) (old new : State)
     (was part : PartState) (held next : HeldPart) → Knows given h old
-    → MayCome given (Success t answer) h → IsAtWork given h t p o → p < length given.logs
+    → MayCome given (Success t answer) h → IsAtWork h t p o → p < length given.logs
     → Completes old new p o part → was ≡ get_or old.parts.items p was → was.held ≡ Some held
     → part.epoch ≡ was.epoch → part.held ≡ Some next
     → ((begin n : ℕ) (marks : List Mark) → StandsFor held.window.window begin n marks
@@ -228,6 +230,14 @@ knows-success given h t p o answer old new was part held next knows may work bel
       places = rw completes.retries (fewer-places (length (open_jobs k)) (length (open_jobs h))
           old.retries.room (open_jobs-success given h knows.legal t may.legal.0.outstanding answer)
           knows.places);
+      part_places = λ q held_then. rw completes.retries (elim (cases_Bool (p == q)) [
+        | inl same ↦ subst (λ (u : ℕ). out_of k u ≤ room_of old.retries u) (eqb-true p q same)
+            (let less = out-settled given h knows.legal t p o work (Success t answer) refl (λ u. refl)
+            refl in
+            let le = knows.part_places p work.held in omega (arith, less, le))
+        | inr apart ↦ rw (out-settled_other (Success t answer) h t q refl (λ u. refl) refl
+            (work-other_part given h t p o knows.legal work q apart)) (knows.part_places q held_then)
+      ]);
       clock = completes.clock ∙ knows.clock;
       jobs = jobs (open-outstanding h t may.legal.0.outstanding) refl (λ u. refl)
           (open_jobs-success given h knows.legal t may.legal.0.outstanding answer);

@@ -19,12 +19,13 @@ use Rattle.pc_model.proofs.SamePart.{other_part}
 use Rattle.pc_laws.specs.Lists.{In}
 use Rattle.pc_laws.proofs.Lists.{In-filter, In-filtered, In-list_any, In-map, and-left, and-right, list_any-In, not-true, same_test, true-not-false}
 use Rattle.pc_retry.specs.declared.queue.Retry.{Retry}
-use Rattle.pc_retry.specs.Waiting.{Waiting, due_retry}
+use Rattle.pc_retry.specs.Waiting.{KeepsRooms, Waiting, due_retry}
 use Rattle.pc_shards.specs.Entries.{Entry, has_entry_at, of_part, with_busy}
 use Rattle.pc_shards.specs.OpenEntries.{entry_of, open_entries}
 use Rattle.pc_shards.proofs.Lists.{AllByRecursion-In}
 use Rattle.pc_state.specs.declared.state.State.{State}
 use Rattle.pc_state.proofs.LedgerLemmas.{counts-tick}
+use Rattle.pc_state.proofs.OutLemmas.{out-along}
 use Rattle.pc_state.specs.State.{Knows, MayCome, entries_of, is_early, is_kept_back, is_out, is_spent, same_place, waiting_of}
 use Rattle.pc_state.proofs.OpenJobsLemmas.{AreOpen-along}
 use Rattle.pc_state.proofs.StateLemmas.{entries-free, entries-held, part-same}
@@ -64,6 +65,7 @@ pub record Ticks (given : Given) (h : List Event) (now : ℕ) (old state : State
   pub entries : (p : ℕ) → of_part state.shards p ≡ entries_while given h state.retries.retries p
   pub waiting : AreLeft given h now state.retries.retries
   pub room : old.retries.room ≤ state.retries.room
+  pub rooms : KeepsRooms old.retries state.retries
   pub jobs : state.jobs ≡ old.jobs
   pub clock : state.clock ≡ now
   pub dispatched : state.dispatched ≡ old.dispatched
@@ -166,6 +168,7 @@ module _ (given : Given) (h : List Event) (s : State) (knows : Knows given h s) 
       once = knows.waiting.once;
     });
     room = rw retries (omega arith);
+    rooms = rw retries (λ p. omega arith);
     jobs = jobs;
     clock = clock;
     dispatched = dispatched;
@@ -299,6 +302,7 @@ pub record Frees (old new : State) (w : Retry) (p u : ℕ) : Type 0 where
   pub others : (q : ℕ) → (q == p) ≡ false → of_part new.shards q ≡ of_part old.shards q
   pub retries : IsPermutation old.retries.retries (w ∷ new.retries.retries)
   pub room : old.retries.room ≤ new.retries.room
+  pub rooms : KeepsRooms old.retries new.retries
   pub jobs : new.jobs ≡ old.jobs
   pub clock : new.clock ≡ old.clock
   pub dispatched : new.dispatched ≡ old.dispatched
@@ -333,6 +337,7 @@ ticks-step given h now old state new w p u ticks due frees =
       waiting = taken-left given h now w state.retries.retries new.retries.retries ticks.waiting
           frees.retries come;
       room = omega (arith, ticks.room, frees.room);
+      rooms = λ q. let le = ticks.rooms q in let more = frees.rooms q in omega (arith, le, more);
       jobs = frees.jobs ∙ ticks.jobs;
       clock = frees.clock ∙ ticks.clock;
       dispatched = frees.dispatched ∙ ticks.dispatched;
@@ -486,6 +491,8 @@ module _ (given : Given) (h : List Event) (now : ℕ) (old state : State) (knows
       once = ticks.waiting.once;
     };
     places = omega (arith, knows.places, ticks.room);
+    part_places = λ q held. rw (out-along h (Tick now ∷ h) q refl refl)
+        (let le = knows.part_places q held in let more = ticks.rooms q in omega (arith, le, more));
     jobs = rw ticks.jobs (AreOpen-along h (Tick now ∷ h) old.jobs refl knows.jobs);
     clock = ticks.clock;
     dispatched = ticks.dispatched ∙ knows.dispatched;
@@ -496,8 +503,9 @@ module _ (given : Given) (h : List Event) (now : ℕ) (old state : State) (knows
 -- none is due: the same ones are left
 pub ticks-none : (given : Given) (h : List Event) (now : ℕ) (old state : State) (left : Waiting)
     → Ticks given h now old state → left.retries ≡ state.retries.retries
-    → state.retries.room ≤ left.room → Ticks given h now old (record state { retries = left })
-ticks-none given h now old state left ticks same room = record {
+    → state.retries.room ≤ left.room → KeepsRooms state.retries left
+    → Ticks given h now old (record state { retries = left })
+ticks-none given h now old state left ticks same room rooms = record {
   setup = ticks.setup;
   logs = ticks.logs;
   items = ticks.items;
@@ -505,6 +513,7 @@ ticks-none given h now old state left ticks same room = record {
   entries = λ p. rw same (ticks.entries p);
   waiting = rw same ticks.waiting;
   room = omega (arith, ticks.room, room);
+  rooms = λ q. let le = ticks.rooms q in let more = rooms q in omega (arith, le, more);
   jobs = ticks.jobs;
   clock = ticks.clock;
   dispatched = ticks.dispatched;

@@ -47,7 +47,7 @@ no-open busy failures (r ∷ rs) left is = cc
 
 module _ (given : Given) (h : List Event) (s : State) (p : ℕ) (knows : Knows given h s)
     (held : is_held h p ≡ true) where
-  entries-are : of_part s.shards p ≡ map (entry_of (λ r. is_kept_back given h p r.offset)
+  pub entries-are : of_part s.shards p ≡ map (entry_of (λ r. is_kept_back given h p r.offset)
       (λ r. failures_of h p r.offset)) (open_records given h p)
   unfolding open_records
   entries-are = knows.entries p ∙ entries-held given h p held

@@ -1,5 +1,5 @@
 -- The job of a result: no other job has its ticket, and no other is out at its offset.
-use Rattle.std.proofs.Common.{◌≡◌, ℕ, true, not, ◌&&◌, ◌==◌, List, Some, refl, sym, subst, ◌∙◌, eq-eqb}
+use Rattle.std.proofs.Common.{◌≡◌, ℕ, true, false, not, ◌&&◌, ◌==◌, List, Some, refl, sym, ap, subst, ◌∙◌, eq-eqb}
 use Rattle.pc_model.specs.declared.event.Event.{Event}
 use Rattle.pc_model.specs.Given.{Given}
 use Rattle.pc_model.specs.Jobs.{Job, is_settled, job_of, jobs_of, open_jobs}
@@ -14,12 +14,13 @@ use Rattle.pc_laws.proofs.JobsLaw.{has-own-key}
 use Rattle.pc_laws.proofs.KeptLaw.{is_kept}
 use Rattle.pc_laws.proofs.StaleLaw.{job_of-In}
 use Rattle.pc_laws.proofs.SucceededLaw.{job-at}
+use Rattle.pc_state.specs.OpenJobs.{is_job_of}
 use Rattle.pc_state.specs.State.{is_out}
 use Rattle.pc_state.proofs.SettleLemmas.{one-job}
 use Rattle.pc_state.proofs.AtWork.{IsAtWork, open-at, open-record}
 
 module _ (given : Given) (h : List Event) (t p o : ℕ) (legal : IsLegal given h)
-    (work : IsAtWork given h t p o) where
+    (work : IsAtWork h t p o) where
   -- it is that of its ticket
   pub work-job : job_of h t ≡ Some work.job
   work-job = subst (λ (u : ℕ). job_of h u ≡ Some work.job) work.ticket
@@ -32,6 +33,13 @@ module _ (given : Given) (h : List Event) (t p o : ℕ) (legal : IsLegal given h
       (In-filtered (λ (k : Job). not (is_settled h k.ticket)) j (jobs_of h) i).0
       (In-filtered (λ (k : Job). not (is_settled h k.ticket)) work.job (jobs_of h) work.out).0
       (ticket ∙ sym work.ticket)
+
+  -- so of another part none has it
+  pub work-other_part : (q : ℕ) → (p == q) ≡ false → (j : Job) → In j (open_jobs h) → j.ticket ≡ t
+      → is_job_of q (epoch_of h q) j ≡ false
+  work-other_part q apart j i ticket =
+      let same : j.part ≡ p = ap (λ (k : Job). k.part) (work-only j i ticket) ∙ work.part in
+      rw (ap (λ (u : ℕ). u == q) same ∙ apart) refl
 
   -- it is at the offset
   pub work-at : is_job_at (Some work.job) p (epoch_of h p) o ≡ true

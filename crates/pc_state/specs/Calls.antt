@@ -1,14 +1,15 @@
--- What the calls of a state speak of: the records that a poll may take, the job of a dispatch, and
--- the results that are expected.
-use Rattle.std.specs.Prelude.{ℕ, ◌+◌, ◌≡◌, pos, not, ◌||◌, List, [], take, filter, Some, None, option_map, unwrap_or}
+-- What the calls of a state speak of: the records that a poll may take, the job of a dispatch, the
+-- results that are expected, and the job that one is of.
+use Rattle.std.specs.Prelude.{ℕ, ◌+◌, ◌≡◌, pos, not, true, ◌||◌, List, [], take, filter, Some, None, option_map, unwrap_or}
 use Rattle.pc_model.specs.declared.event.Event.{Event}
 use Rattle.pc_model.specs.Record.{Record}
 use Rattle.pc_model.specs.Given.{Given, record_at}
-use Rattle.pc_model.specs.Jobs.{dispatch_count}
-use Rattle.pc_model.specs.Epochs.{epoch_of}
+use Rattle.pc_model.specs.Jobs.{Job, dispatch_count, job_of, open_jobs}
+use Rattle.pc_model.specs.Epochs.{epoch_of, is_held}
 use Rattle.pc_model.specs.Known.{unpolled_records}
 use Rattle.pc_model.specs.Pressure.{is_blocked, is_upto_high}
 use Rattle.pc_model.specs.Retry.{failures_of}
+use Rattle.pc_laws.specs.Lists.{In}
 use Rattle.pc_task.specs.Jobs.{PlainJob}
 use Rattle.pc_state.specs.OpenJobs.{kept_job, open_job}
 
@@ -50,3 +51,14 @@ pub record IsExpected (given : Given) (h : List Event) (job : PlainJob) : Type 0
   })
   pub entry : record_at given job.part job.entry.offset ≡ Some job.entry
   pub rules : job.rules ≡ given.setup.settings.rules
+
+-- the job of a ticket, which is out and current, at an offset of the part
+pub record IsAtWork (h : List Event) (t p o : ℕ) : Type 0 where
+  pub job : Job
+  pub is : job_of h t ≡ Some job
+  pub out : In job (open_jobs h)
+  pub ticket : job.ticket ≡ t
+  pub part : job.part ≡ p
+  pub offset : job.offset ≡ o
+  pub epoch : job.epoch ≡ epoch_of h p
+  pub held : is_held h p ≡ true

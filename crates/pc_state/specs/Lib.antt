@@ -4,3 +4,4 @@ pub mod Calls
 pub mod Polls
 pub mod State
 pub mod Queries
+pub mod Rest

@@ -1,5 +1,5 @@
 -- Of which history a state is.
-use Rattle.std.specs.Prelude.{ℕ, ◌+◌, ◌≡◌, ◌≤◌, ◌<◌, Bool, not, ◌&&◌, ◌||◌, ◌==◌, nat_le, nat_lt, if◌then◌else◌, List, [], ◌∷◌, map, filter, length, Option, Some, None, is_some, option_map, ⊤, slice_index_or}
+use Rattle.std.specs.Prelude.{ℕ, ◌+◌, ◌≡◌, ◌≤◌, ◌<◌, Bool, not, ◌&&◌, ◌||◌, ◌==◌, nat_le, nat_lt, if◌then◌else◌, true, List, [], ◌∷◌, map, filter, length, Option, Some, None, is_some, option_map, ⊤, slice_index_or}
 use Rattle.std.specs.List.{IsDistinct, list_any}
 use Rattle.pc_model.specs.declared.limits.TheConstants.{MAX_EVENTS, MAX_PARTS, MAX_RECORDS}
 use Rattle.pc_model.specs.declared.event.Event.{Event}
@@ -15,13 +15,14 @@ use Rattle.pc_model.specs.Lawful.{IsLegal}
 use Rattle.pc_laws.specs.Lists.{In}
 use Rattle.pc_partition.specs.Window.{StandsFor}
 use Rattle.pc_retry.specs.declared.queue.Retry.{Retry}
+use Rattle.pc_retry.specs.Waiting.{Waiting, room_of}
 use Rattle.pc_shards.specs.Entries.{Entry, of_part}
 use Rattle.pc_shards.specs.OpenEntries.{open_entries}
 use Rattle.pc_state.specs.declared.part.HeldPart.{HeldPart}
 use Rattle.pc_state.specs.declared.part.PartState.{PartState}
 use Rattle.pc_state.specs.declared.state.State.{State}
 use Rattle.pc_state.specs.Ledger.{Counts}
-use Rattle.pc_state.specs.OpenJobs.{AreOpen}
+use Rattle.pc_state.specs.OpenJobs.{AreOpen, out_of}
 
 -- whether a job of the part's present epoch is out at the offset
 unfoldable pub is_out : List Event → ℕ → ℕ → Bool
@@ -85,6 +86,10 @@ pub record AreWaiting (given : Given) (h : List Event) (retries : List Retry) : 
   pub whole : (w : Retry) → In w (waiting_of given h w.part) → In w retries
   pub once : IsDistinct same_place retries
 
+-- for each job of a held part that is out there is a place among the part's retries
+abbrev pub HavePlaces : List Event → Waiting → Type 0
+HavePlaces h retries = (p : ℕ) → is_held h p ≡ true → out_of h p ≤ room_of retries p
+
 -- the state is that of a legal history
 pub record Knows (given : Given) (h : List Event) (s : State) : Type 0 where
   pub setup : given.setup ≡ s.setup.now
@@ -100,6 +105,7 @@ pub record Knows (given : Given) (h : List Event) (s : State) : Type 0 where
   pub entries : (p : ℕ) → of_part s.shards p ≡ entries_of given h p
   pub waiting : AreWaiting given h s.retries.retries
   pub places : length (open_jobs h) ≤ s.retries.room
+  pub part_places : HavePlaces h s.retries
   pub jobs : AreOpen h s.jobs
   pub clock : s.clock ≡ now_of h
   pub dispatched : s.dispatched ≡ dispatch_count h

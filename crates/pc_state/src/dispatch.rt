@@ -5,13 +5,16 @@ ghost use Rattle.std.specs.List.{range_with_len};
 ghost use Rattle.pc_model.specs.declared.event.Event.{Event};
 ghost use Rattle.pc_model.specs.declared.event.Event.TheVariants.{Dispatch};
 ghost use Rattle.pc_model.specs.Given.{Given};
-ghost use Rattle.pc_model.specs.Jobs.{dispatch_count};
+ghost use Rattle.pc_model.specs.Jobs.{dispatch_count, open_jobs};
 ghost use Rattle.pc_model.specs.Numbers.{first_some, least_of};
-ghost use Rattle.pc_model.specs.Epochs.{epoch_of};
+ghost use Rattle.pc_model.specs.Epochs.{epoch_of, is_held};
 ghost use Rattle.pc_model.specs.Retry.{failures_of};
 ghost use Rattle.pc_model.specs.Next.{eligible_offsets, next_of_part, next_record};
 ghost use Rattle.pc_task.specs.Jobs.{plain_job};
+ghost use Rattle.pc_retry.specs.Waiting.{room_of};
 ghost use Rattle.pc_state.specs.Calls.{job_to_do};
+ghost use Rattle.pc_state.specs.Ledger.{HasPlace};
+ghost use Rattle.pc_state.specs.OpenJobs.{out_of};
 ghost use Rattle.pc_state.specs.State.{Knows, MayCome};
 
 use crate::jobs::OpenJob;
@@ -62,6 +65,25 @@ impl<'a> State<'a> {
         }
     }
 
+    /// Makes the places that a job of a held part needs for its failure. The only error is want of
+    /// memory; in either case the same is known.
+    fn make_places(&mut self, part: u32) -> Result<(), AllocError>
+        requires { (given : Given) × (h : List Event) × Knows given h self.old
+            × (is_held h part ≡ true) }
+        ensures retries { OnOk result ((given : Given) (h : List Event) → Knows given h self.old
+            → length (open_jobs h) + 1 ≤ self.new.retries.room) }
+        ensures part { OnOk result ((given : Given) (h : List Event) → Knows given h self.old
+            → is_held h part ≡ true → out_of h part + 1 ≤ room_of self.new.retries part) }
+        ensures failed { OnOk result (HasPlace part self.new.ledger) }
+        ensures stays { (given : Given) (h : List Event) → Knows given h self.old
+            → Knows given h self.new }
+    {
+        self.retries.reserve(self.jobs.len() as u32 + 1)?;
+        let out = self.ledger.make_place(part)?;
+        self.retries.reserve_part(part, out)?;
+        Ok(())
+    }
+
     /// Dispatches the next record to a worker, with the function to run on it. The only error is want
     /// of memory, after which the state is as before.
     pub fn dispatch<T>(
@@ -86,10 +108,10 @@ impl<'a> State<'a> {
         ensures stays { OnErr result ((given : Given) (h : List Event) → Knows given h self.old
             → Knows given h self.new) }
     {
+        self.make_places(part)?;
         let Some(entry) = self.shards.entry(part, offset) else {
             unreachable!();
         };
-        self.retries.reserve(self.jobs.len() as u32 + 1)?;
         let ticket = self.dispatched + 1;
         let epoch = self.parts[part as usize].epoch;
         let attempt = entry.failures + 1;
@@ -102,6 +124,7 @@ impl<'a> State<'a> {
                 attempt,
             },
         )?;
+        self.ledger.dispatch(part);
         self.shards.busy(part, offset);
         self.dispatched = ticket;
         self.last = Some(part);

@@ -30,6 +30,7 @@ impl<'a> State<'a> {
         let epoch = state.epoch;
         state.epoch = epoch + 1;
         state.held = None;
+        self.ledger.release(part);
         self.shards.drop_part(part);
         self.retries.drop_part(part);
         epoch

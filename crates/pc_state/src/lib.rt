@@ -9,9 +9,11 @@ mod ledger;
 mod part;
 mod polls;
 mod queries;
+mod rest;
 mod results;
 mod retries;
 mod state;
+mod unread;
 
 pub use jobs::{OpenJob, OpenJobs};
 pub use ledger::{Ledger, PartLedger};
@@ -20,3 +22,4 @@ pub use polls::Taken;
 pub use queries::Unfinished;
 pub use retries::ready_after;
 pub use state::State;
+pub use unread::Unread;

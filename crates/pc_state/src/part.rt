@@ -3,7 +3,7 @@
 ghost use Rattle.std.specs.Prelude.{◌≡◌, ℕ, None, IfOk, length, replicate};
 ghost use Rattle.pc_state.specs.State.{with_size};
 
-use pc_cursor::Cursor;
+use crate::unread::Unread;
 use pc_partition::PartitionState;
 use std::alloc::{AllocError, Global};
 
@@ -19,8 +19,8 @@ pub struct PartState<'a> {
 pub struct HeldPart<'a> {
     /// Which known offsets are complete.
     pub window: PartitionState,
-    /// Where its log is to be read on: at the first record that was not polled.
-    pub rest: Cursor<'a>,
+    /// What is left of its log to poll.
+    pub rest: Unread<'a>,
     /// The size of the last commit since the assignment.
     pub size: Option<u32>,
 }

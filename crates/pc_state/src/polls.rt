@@ -21,6 +21,7 @@ ghost use Rattle.pc_state.specs.State.{Knows, MayCome};
 
 use crate::part::HeldPart;
 use crate::state::State;
+use crate::unread::Unread;
 use pc_batch::RecordRef;
 use pc_broker_log::Polled;
 use pc_choice::pressed;
@@ -59,9 +60,7 @@ impl<'a> State<'a> {
             → is_held h part ≡ true
             → result ≡ option_map (λ r. r.offset) (slice_get (unpolled_records given h part) 0) }
     {
-        let held = self.held(part)?;
-        let record = held.rest.again().next()?;
-        Some(record.offset)
+        self.held(part)?.rest.first()
     }
 
     /// The greatest complete offset of a held part that is blocked.
@@ -200,7 +199,7 @@ fn take_in<'a>(
         offsets.push(record.offset)?;
     }
     held.window.polled(&offsets)?;
-    held.rest = left.rest();
+    held.rest = Unread::new(left.rest());
     Ok(Taken {
         count: offsets.len() as u32,
         last: last_of(&offsets),

@@ -143,15 +143,16 @@ impl<'a> State<'a> {
     }
 
     // What is known of a held part, and what of its commits.
-    fn held_part(&self, part: u32) -> Option<(&HeldPart<'a>, PartLedger)>
+    pub(crate) fn held_part(&self, part: u32) -> Option<(&HeldPart<'a>, &PartLedger)>
         ensures knows { IfSome result (λ it. (given : Given) (h : List Event)
             → Knows given h self.now
-            → (is_held h part ≡ true) × KnowsHeld given h part it.0.now × CountsPart given h part it.1) }
+            → (is_held h part ≡ true) × KnowsHeld given h part it.0.now
+            × CountsPart given h part it.1.now) }
         ensures free { result ≡ None → (given : Given) (h : List Event) → Knows given h self.now
             → is_held h part ≡ false }
     {
         let held = self.held(part)?;
         let kept = self.ledger.parts.as_slice().get(part as usize)?;
-        Some((held, *kept))
+        Some((held, kept))
     }
 }

@@ -84,6 +84,7 @@ impl<'a> State<'a> {
             → Knows given (Failure ticket code ready_at ∷ h) self.new }
     {
         self.jobs.remove(ticket);
+        self.ledger.count_failure(part, offset);
         self.shards.fail(part, offset);
         if self.is_spent(part, offset) {
             return;

@@ -16,6 +16,7 @@ ghost use Rattle.pc_state.specs.State.{Knows, KnowsHeld, MayCome, PartKeeps};
 use crate::jobs::OpenJobs;
 use crate::ledger::Ledger;
 use crate::part::{self, HeldPart, PartState};
+use crate::unread::Unread;
 use pc_broker_log::BrokerLogs;
 use pc_model::Setup;
 use pc_partition::PartitionState;
@@ -30,7 +31,8 @@ pub struct State<'a> {
     pub logs: &'a BrokerLogs<'a>,
     pub parts: Vec<PartState<'a>>,
     pub shards: Shards<'a>,
-    /// The records that failed and wait for their time. There is a place for each job that is out.
+    /// The records that failed and wait for their time. There is a place for each job that is out,
+    /// and one in its part's.
     pub retries: RetryQueue,
     pub jobs: OpenJobs,
     /// The number of the last tick, or 0.
@@ -133,7 +135,7 @@ impl<'a> State<'a> {
         state.epoch += 1;
         state.held = Some(HeldPart {
             window,
-            rest,
+            rest: Unread::new(rest),
             size: None,
         });
         state.epoch

@@ -6,6 +6,7 @@ use Rattle.pc_model.specs.Record.{Record}
 use Rattle.pc_model.specs.Marks.{Mark}
 use Rattle.pc_partition.specs.Window.{AreNext, StandsFor, with_polled}
 use Rattle.pc_shards.specs.Entries.{of_part}
+use Rattle.pc_cursor.specs.declared.cursor.Cursor.{Cursor}
 use Rattle.pc_state.specs.Polls.{is_open_in}
 use Rattle.pc_state.proofs.AddLemmas.{above-those-before}
 use Rattle.pc_state.proofs.TakeLemmas.{last-offsets, taking-log, taking-more, taking-offsets}
@@ -62,7 +63,7 @@ returns-clause-held c =
           → StandsFor c.args.held.now.window.window begin n marks → AreNext n marks os
           → StandsFor c.polled.new.self.window begin (n + length os) (with_polled n marks os))
           (c.deref.ensures.value ∙ offsets) c.in_ok-polled.ensures.polled;
-      rest = c.rest-held.ensures ∙ c.in_default.ensures.steps.1
+      rest = ap (λ (x : Cursor). x.left) c.new-held.ensures ∙ c.rest.ensures ∙ c.in_default.ensures.steps.1
           ∙ taking-log c.args.held.now.window.window c.args.next c.records.left c.records.offsets.items
           (of_part c.args.shards.now c.args.part) (of_part c.records.shards c.args.part) taking none
           ∙ ap (λ (rs : List Record). drop (length (map (λ (r : Record). r.offset) c.args.next.left)) rs)

@@ -7,4 +7,4 @@ use Rattle.pc_retry.proofs.queue.RetryQueue.next_time.Goals as goal
 pub returns : goal.returns
 returns c = rw (← c.self.view_is) (sym (least_of-first c.in_ok-first.field-0.now
     (heap_items c.self.inside.heap) c.in_ok-first.ensures.item.3.0 c.in_ok-first.ensures.lookup
-    (c.in_ok-first.ensures.greatest c.self.invariant)))
+    (c.in_ok-first.ensures.greatest c.self.invariant.heap)))

@@ -1,31 +1,31 @@
--- There are no more successes than events.
-use Rattle.std.proofs.Common.{◌+◌, set, true, ap, refl, arith}
+-- There are no more successes than events, and the job was out.
+use Rattle.std.proofs.Common.{refl, arith}
 use Rattle.pc_model.specs.Epochs.{epoch_of}
-use Rattle.pc_state.specs.declared.ledger.PartLedger.{PartLedger}
-use Rattle.pc_state.proofs.LedgerLemmas.{counts-success, fresh-few, successes-few}
+use Rattle.pc_state.proofs.LedgerLemmas.{counts-read, counts-success, fresh-few, successes-few}
+use Rattle.pc_state.proofs.OutLemmas.{out-some}
 use Rattle.pc_state.proofs.ledger.Ledger.succeed.Goals as goal
 
-pub index_mut-state-requires : goal.index_mut-state-requires
-index_mut-state-requires c = let (given, h, counts, below, held, few) = c.requires in
-    let same = counts.count in omega (arith, below, same, c.args.self.now.parts.ok.0)
-
 pub overflow_add-state : goal.overflow_add-state
-overflow_add-state c = let (given, h, counts, below, held, few) = c.requires in
-    let state = c.index_mut-state.result.now in
-    let fresh = (counts.each c.args.part state below held).fresh in
-    let least = fresh-few h c.args.part (epoch_of h c.args.part) in
-    let same = ap (λ (x : PartLedger). x.fresh) c.index_mut-state.ensures.value in
-    omega (arith, fresh, least, same, few)
+overflow_add-state c = let (given, h, ticket, offset, counts, legal, work, below, few) = c.requires in
+    let known = counts-read given h c.args.self.now c.args.part c.index_mut-state.result.now counts below
+    work.held c.index_mut-state.ensures.value in
+    omega (arith, known.fresh, fresh-few h c.args.part (epoch_of h c.args.part), few)
+
+pub overflow_sub-state : goal.overflow_sub-state
+overflow_sub-state c = let (given, h, ticket, offset, counts, legal, work, below, few) = c.requires in
+    let known = counts-read given h c.args.self.now c.args.part c.index_mut-state.result.now counts below
+    work.held c.index_mut-state.ensures.value in
+    omega (arith, known.out, out-some given h legal ticket c.args.part offset work)
 
 pub overflow_add-self : goal.overflow_add-self
-overflow_add-self c = let (given, h, counts, below, held, few) = c.requires in
+overflow_add-self c = let (given, h, ticket, offset, counts, legal, work, below, few) = c.requires in
     let least = successes-few h in omega (arith, counts.successes, least, few)
 
 pub returns : goal.returns
-returns c = λ given h ticket answer job counts is part epoch below held.
-    counts-success given h ticket answer job c.args.part is part epoch c.args.self.now _
-    c.index_mut-state.result.now
-    (ap (λ (x : PartLedger). set c.args.self.now.parts.items c.args.part
-    (record { stored = x.stored; fresh = x.fresh + 1; unstored = true }))
-    c.index_mut-state.ensures.value)
-    below held refl refl refl counts
+returns c = λ given h ticket offset answer counts legal work below.
+    let known = counts-read given h c.args.self.now c.args.part c.index_mut-state.result.now counts below
+    work.held c.index_mut-state.ensures.value in
+    let some = out-some given h legal ticket c.args.part offset work in
+    counts-success given h ticket c.args.part offset legal work answer c.args.self.now _
+    c.index_mut-state.result.now _ c.index_mut-state.ensures.value refl below refl refl refl refl refl
+    refl (omega (arith, known.out, some)) refl counts

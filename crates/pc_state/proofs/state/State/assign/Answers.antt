@@ -33,7 +33,7 @@ returns-clause-knows c = λ given h stored knows at stands may.
     let same : stored ≡ record { position = c.args.position; map = stored.map } =
     ap (λ (n : ℕ). record { position = n; map = stored.map }) at in
     knows-assigned given h c.args.self.now _ c.args.part
-    (record { position = c.args.position; map = stored.map }) _ c.args.window c.in-Some.rest knows may
+    (record { position = c.args.position; map = stored.map }) _ c.args.window c.new.result knows may
     (log-below given.logs c.args.part may.legal.0.known)
     (record {
       setup = refl;
@@ -48,11 +48,12 @@ returns-clause-knows c = λ given h stored knows at stands may.
     })
     (ap (λ (e : ℕ). e + 1) (known-epoch given h c.args.self.now c.args.part knows may.legal.0.known
     c.index_mut-state.result.now _ c.index_mut-state.ensures.value)) refl
-    (read-of (log_at given.logs c.args.part) (not_below c.args.position) c.in-Some.rest.left
+    (ap (λ (x : Cursor). x.left) c.new.ensures
+    ∙ read-of (log_at given.logs c.args.part) (not_below c.args.position) c.in-Some.rest.left
     (rw knows.logs (ap (option_map (λ (x : Cursor). x.left)) (sym c.in-Some.is) ∙ c.cursor.ensures)))
     (subst (λ (s : Commit). StandsFor c.args.window.window c.args.position 0
     (resumed_marks s (records_of given c.args.part))) same stands)
-    (c.assign.ensures given h (epoch_of h c.args.part + 1) stored.map knows.ledger)
+    (c.assign.ensures given h (epoch_of h c.args.part + 1) stored.map knows.ledger knows.legal)
 
 pub assign-requires : goal.assign-requires
 assign-requires c =

@@ -39,4 +39,4 @@ returns c = λ given h text knows may.
     })
     (subst (λ (x : PartState). PartKeeps given h c.args.part x) (sym c.index_mut.ensures.value)
     (known-part given h c.args.self.now c.args.part knows known _)) may
-    (c.commit.ensures given h text c.args.size knows.ledger)
+    (c.commit.ensures given h text c.args.size knows.ledger may.legal.0.held)

@@ -1,8 +1,10 @@
 -- A part that is held is known, and its epoch is small.
 use Rattle.std.proofs.Common.{◌+◌, ℕ, None, refl, ap, arith}
 use Rattle.std.specs.Vec.{with_item}
+use Rattle.pc_model.specs.Epochs.{epoch_of}
 use Rattle.pc_state.specs.declared.part.PartState.{PartState}
-use Rattle.pc_state.proofs.PartEvents.{held-has_log, known-below, known-epoch, known-epoch_small}
+use Rattle.pc_state.proofs.PartEvents.{held-has_log, known-below, known-epoch, known-epoch_small, log-below}
+use Rattle.pc_state.proofs.LedgerLemmas.{ledger-below}
 use Rattle.pc_state.proofs.ReleaseLemmas.{knows-lost, knows-revoked}
 use Rattle.pc_state.proofs.state.State.release.Goals as goal
 
@@ -26,7 +28,7 @@ returns-clause-epoch c = λ given h knows held. known-epoch given h c.args.self.
     c.index_mut-state.result.now _ c.index_mut-state.ensures.value
 
 pub returns-clause-lost : goal.returns-clause-lost
-returns-clause-lost c = λ given h knows held.
+returns-clause-lost c = λ given h knows held may.
     let part : PartState = record { epoch = c.index_mut-state.result.now.epoch + 1; held = None } in
     knows-lost given h c.args.self.now
     (record {
@@ -39,7 +41,7 @@ returns-clause-lost c = λ given h knows held.
       clock = c.args.self.now.clock;
       dispatched = c.args.self.now.dispatched;
       last = c.args.self.now.last;
-      ledger = c.args.self.now.ledger;
+      ledger = c.release.new.self;
     })
     c.args.part part knows
     (record {
@@ -51,16 +53,17 @@ returns-clause-lost c = λ given h knows held.
       others = c.drop_part.ensures.others.others;
       retries = c.drop_part-2.ensures.retries;
       room = c.drop_part-2.ensures.room;
+      rooms = c.drop_part-2.ensures.rooms;
       jobs = refl;
       clock = refl;
       dispatched = refl;
       last = refl;
-      ledger = refl;
     })
-    held (ap (λ (e : ℕ). e + 1) (returns-clause-epoch c given h knows held)) refl
+    held (ap (λ (e : ℕ). e + 1) (returns-clause-epoch c given h knows held)) refl may
+    (c.release.ensures.lost given h (epoch_of h c.args.part) knows.ledger)
 
 pub returns-clause-revoked : goal.returns-clause-revoked
-returns-clause-revoked c = λ given h knows held.
+returns-clause-revoked c = λ given h knows held may.
     let part : PartState = record { epoch = c.index_mut-state.result.now.epoch + 1; held = None } in
     knows-revoked given h c.args.self.now
     (record {
@@ -73,7 +76,7 @@ returns-clause-revoked c = λ given h knows held.
       clock = c.args.self.now.clock;
       dispatched = c.args.self.now.dispatched;
       last = c.args.self.now.last;
-      ledger = c.args.self.now.ledger;
+      ledger = c.release.new.self;
     })
     c.args.part part knows
     (record {
@@ -85,10 +88,17 @@ returns-clause-revoked c = λ given h knows held.
       others = c.drop_part.ensures.others.others;
       retries = c.drop_part-2.ensures.retries;
       room = c.drop_part-2.ensures.room;
+      rooms = c.drop_part-2.ensures.rooms;
       jobs = refl;
       clock = refl;
       dispatched = refl;
       last = refl;
-      ledger = refl;
     })
-    held (ap (λ (e : ℕ). e + 1) (returns-clause-epoch c given h knows held)) refl
+    held (ap (λ (e : ℕ). e + 1) (returns-clause-epoch c given h knows held)) refl may
+    (c.release.ensures.revoked given h (epoch_of h c.args.part) knows.ledger)
+
+pub release-requires : goal.release-requires
+release-requires c =
+    let (given, h, knows, held) = c.requires in
+    ledger-below given h c.args.self.now c.args.part knows
+    (log-below given.logs c.args.part (held-has_log given h c.args.part knows.legal held))

@@ -28,9 +28,12 @@ succeed-requires c =
     let at = open-at given h c.args.ticket c.args.part c.args.offset knows.legal work in (
       given,
       h,
+      c.args.ticket,
+      c.args.offset,
       knows.ledger,
+      knows.legal,
+      work,
       polled-below given h c.args.part at.entry at.polled,
-      held,
       few-events (length h) (length (open_jobs h)) knows.limit,
     )
 
@@ -99,8 +102,8 @@ returns-in-Some c = λ given h job answer knows kept part offset epoch held may.
     })
     c.index_mut.ensures.value c.in-Some.is refl refl c.succeed-in-Some.ensures refl refl
     (c.remove.ensures h (Success c.args.ticket answer) knows.jobs)
-    (c.succeed.ensures given h c.args.ticket answer work.job knows.ledger work.is work.part work.epoch
-    (polled-below given h c.args.part at.entry at.polled) held)
+    (c.succeed.ensures given h c.args.ticket c.args.offset answer knows.ledger knows.legal work
+    (polled-below given h c.args.part at.entry at.polled))
 
 pub returns-in_default : goal.returns-in_default
 returns-in_default c = λ given h job answer knows kept part offset epoch held may.

@@ -52,6 +52,7 @@ loop-part-preserved c = λ given h knows may.
       others = c.free.ensures.others.others;
       retries = c.due.ensures.taken one.0 one.1;
       room = c.due.ensures.room;
+      rooms = c.due.ensures.rooms;
       jobs = refl;
       clock = refl;
       dispatched = refl;
@@ -67,5 +68,5 @@ returns c = λ given h knows may.
     knows-tick given h c.args.now c.args.self.now
     (record c.loop-part.self { retries = c.due.new.self }) knows may
     (ticks-none given h c.args.now c.args.self.now c.loop-part.self c.due.new.self
-    (c.loop-part.invariant given h knows may) same c.due.ensures.room)
+    (c.loop-part.invariant given h knows may) same c.due.ensures.room c.due.ensures.rooms)
     (ap (due_retry c.args.now) same ∙ none)
