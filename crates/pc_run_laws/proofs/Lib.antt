@@ -1,2 +1,10 @@
-pub mod AttemptsLaw
-pub mod RestLaw
+mod AttemptsLaw
+mod RestLaw
+mod Tally
+mod RecordCounts
+mod PartCounts
+mod Moves
+mod Drains
+mod Ticks
+mod BoundLaw
+mod FailedLaw

@@ -169,7 +169,7 @@ In-first : (r : Record) (rs : List Record) → slice_get rs 0 ≡ Some r → In 
 In-first r [] e = cc
 In-first r (q ∷ qs) e = let is : q ≡ r = cc in inl (sym is)
 
-eligible-incomplete : (given : Given) (h : List Event) (p : ℕ) (r : Record)
+pub eligible-incomplete : (given : Given) (h : List Event) (p : ℕ) (r : Record)
     → is_eligible_record given h p r ≡ true → is_complete h p r.offset ≡ false
 unfolding is_eligible_record
 eligible-incomplete given h p r e = not-true _
@@ -227,7 +227,7 @@ is_nil-of [] e = refl
 is_nil-of (x ∷ xs) e = cc
 
 -- no block begins once all steps are used up
-none-begins : (given : Given) (steps : List Step) (h : List Event) (act : Act)
+pub none-begins : (given : Given) (steps : List Step) (h : List Event) (act : Act)
     → length steps ≤ (place_of given h).begun → may_begin given steps h act ≡ true → ⊥
 none-begins given steps h act used may =
     let none : slice_get steps (place_of given h).begun ≡ None = slice_get_past steps
@@ -417,7 +417,7 @@ high-between o (Some g) below beyond =
     let lt : o < g = ltb-true o g below in true-not-false (nat_le o g) (le-leb o g (omega arith)) beyond
 
 -- no record may be dispatched at rest
-none-eligible : (given : Given) (h : List Event) (p : ℕ) (r : Record) → IsLegal given h
+pub none-eligible : (given : Given) (h : List Event) (p : ℕ) (r : Record) → IsLegal given h
     → is_part_at_rest given h p ≡ true → In r (polled_records given h p)
     → is_eligible_record given h p r ≡ true → ⊥
 unfolding is_eligible_record is_given_up is_first
@@ -450,14 +450,14 @@ none-eligible given h p r legal part polled e =
           high-between r.offset (high_of given h p) below beyond
     ]
 
-ends-in : (given : Given) (h : List Event) (p : ℕ) → ends_in_commit h p ≡ true
+pub ends-in : (given : Given) (h : List Event) (p : ℕ) → ends_in_commit h p ≡ true
     → place_of given (drop 1 h) ≡ place_of given h
 ends-in given [] p e = cc
 ends-in given (Committed q position text size ∷ h) p e = refl
 ends-in given (CommitFailed q position text size ∷ h) p e = refl
 ends-in given (v ∷ h) p e = cc
 
-at-end : (given : Given) (steps : List Step) (h : List Event) → IsLegal given h
+pub at-end : (given : Given) (steps : List Step) (h : List Event) → IsLegal given h
     → follows given steps h ≡ true → is_paced given steps h ≡ true → is_draining h ≡ true
     → IsAtEnd given steps h
 at-end given steps [] legal moves paced drains = cc

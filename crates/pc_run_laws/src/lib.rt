@@ -1,19 +1,22 @@
-//! Laws of every run by its steps: what it leaves at its end was given up, and it stays at rest once
-//! it drains.
+//! Laws of every run by its steps: what it leaves at its end was given up, it stays at rest once it
+//! drains, its events are bounded by its input, and its failed commits have a cause.
 //!
 //! Each function does nothing; its clause is the law, for every setup, log, start, function, script of
 //! steps and history.
 #![tactic(auto)]
 
-ghost use Rattle.std.specs.Prelude.{ℕ, List, ◌≡◌, true};
+ghost use Rattle.std.specs.Prelude.{ℕ, ◌+◌, ◌-◌, ◌^◌, Bool, true, List, ◌++◌, length, ◌≡◌, ◌≤◌, ◌⊎◌};
 ghost use Rattle.pc_model.specs.declared.event.Event.{Event};
+ghost use Rattle.pc_model.specs.declared.commit.Commit.{Commit};
 ghost use Rattle.pc_model.specs.declared.step.Step.{Step};
+ghost use Rattle.pc_model.specs.Bound.{event_bound};
 ghost use Rattle.pc_model.specs.Given.{Given};
-ghost use Rattle.pc_model.specs.Jobs.{is_draining};
+ghost use Rattle.pc_model.specs.Jobs.{is_draining, open_jobs};
 ghost use Rattle.pc_model.specs.Epochs.{is_held};
 ghost use Rattle.pc_model.specs.Record.{Record};
 ghost use Rattle.pc_model.specs.Retry.{failures_of};
 ghost use Rattle.pc_model.specs.Run.{is_at_rest};
+ghost use Rattle.pc_run_laws.specs.Failed.{AreCaused, last_count, unrefused_commits};
 ghost use Rattle.pc_run_laws.specs.Run.{IsFirstUnfinished, IsRun};
 
 /// From its drain on a run stays at rest.
@@ -29,4 +32,26 @@ pub fn what_is_left_is_given_up()
         → IsRun given steps h → is_at_rest given h ≡ true → is_held h p ≡ true
         → IsFirstUnfinished given h p r
         → failures_of h p r.offset ≡ given.setup.settings.give_up }
+{}
+
+/// Events are bounded by the input: with a place for the result of each job that is out, they are at
+/// most the bound of the steps less 2.
+pub fn events_are_bounded()
+    ensures { (given : Given) (steps : List Step) (h : List Event) → IsRun given steps h
+        → length h + length (open_jobs h) + 2 ≤ event_bound given steps }
+{}
+
+/// What a run was before its newest events is a run by the same steps.
+pub fn prefix_is_run()
+    ensures { (given : Given) (steps : List Step) (later h : List Event)
+        → IsRun given steps (later ++ h) → IsRun given steps h }
+{}
+
+/// Failed commits have their cause: those that the broker does not refuse are no more than the faults
+/// by which the link's count rose, unless that count stands at its end.
+pub fn failed_commits_have_their_cause()
+    ensures { (refuses : ℕ → Commit → Bool) (start : ℕ) (h : List Event) (counts : List ℕ)
+        → AreCaused refuses start h counts
+        → (start + unrefused_commits refuses h ≤ last_count start counts)
+        ⊎ (2 ^ 64 - 1 ≤ last_count start counts) }
 {}
