@@ -1,0 +1,22 @@
+-- Each test computes.
+use Rattle.std.proofs.Common.{◌≡◌, true, reverse, refl}
+use Rattle.pc_model.proofs.OnLiterals.{history_on_literals}
+use Rattle.pc_model.specs.Test.{is_legal}
+use Rattle.pc_model.proofs.Legal.{Decides-is_legal}
+use Rattle.pc_model.specs.Rows.{are_refused}
+use Rattle.pc_worked.specs.Histories.{by_part, part_order, part_neighbours, part_setup}
+use Rattle.pc_worked.proofs.order_by_part.Goals as goal
+
+legal : is_legal by_part (reverse part_order) ≡ true
+unfolding history_on_literals by_part part_setup
+legal = refl
+
+neighbours : are_refused by_part part_neighbours ≡ true
+unfolding history_on_literals by_part part_setup
+neighbours = refl
+
+pub returns-clause-legal : goal.returns-clause-legal
+returns-clause-legal c = (Decides-is_legal by_part (reverse part_order)).0 legal
+
+pub returns-clause-neighbours : goal.returns-clause-neighbours
+returns-clause-neighbours c = neighbours
