@@ -20,7 +20,7 @@ use Rattle.pc_state.specs.State.{Knows, MayCome}
 use Rattle.pc_engine.proofs.EngineEvents.{room-limit}
 use Rattle.pc_engine.proofs.EngineLemmas.{In-entry, MayAssign, assign-does, given_by-same, may_assign, option_or-none, unwrap-or-some}
 use Rattle.pc_engine.proofs.EngineStep.{given_to, given-known}
-use Rattle.pc_state.proofs.PartEvents.{log-below}
+use Rattle.pc_laws.proofs.HeldLaw.{log-below}
 
 module _ (state : State) (h : List Event) (told : Bool) (outcomes : Outcomes) (kept : ℕ → Commit) (room : ℕ)
     (keeps : IsEngine (given_to state h told outcomes kept) kept state room h) (p : ℕ)

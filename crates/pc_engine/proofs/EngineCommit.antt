@@ -29,7 +29,7 @@ use Rattle.pc_state.specs.State.{Knows, MayCome}
 use Rattle.pc_engine.proofs.EngineEvents.{room-limit}
 use Rattle.pc_engine.proofs.EngineLemmas.{KeepsAt, MayCommit, MayKeepAt, failed-other, given_by-same, held-assigned, keeps-others, may_commit, option_or-none, stored-other}
 use Rattle.pc_engine.proofs.EngineStep.{given_to, given-known}
-use Rattle.pc_state.proofs.PartEvents.{log-below}
+use Rattle.pc_laws.proofs.HeldLaw.{log-below}
 
 -- an event that assigns nothing, where the link keeps of the other parts what it kept
 given-commit : (new : State) (h : List Event) (v : Event) (told : Bool) (outcomes : Outcomes) (kept kept' : ℕ → Commit)

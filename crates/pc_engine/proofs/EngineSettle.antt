@@ -27,15 +27,14 @@ use Rattle.pc_task.specs.declared.task.Task.{Ghosts}
 use Rattle.pc_task.specs.Jobs.{Outcomes, PlainJob, due_outcome}
 use Rattle.pc_state.specs.declared.jobs.OpenJob.{OpenJob}
 use Rattle.pc_state.specs.declared.state.State.{State}
-use Rattle.pc_state.specs.Calls.{IsExpected}
+use Rattle.pc_state.specs.Calls.{IsExpected, kept_of}
 use Rattle.pc_engine.specs.Effect.{Settles, settle_step}
 use Rattle.pc_engine.specs.declared.settled.Settled.TheVariants.{Failed}
 use Rattle.pc_engine.specs.Engine.{IsEngine}
 use Rattle.pc_state.specs.OpenJobs.{kept_job, open_job}
 use Rattle.pc_state.specs.State.{Knows, MayCome}
 use Rattle.pc_engine.proofs.EngineStep.{given_to, given-event, keeps-event}
-use Rattle.pc_state.proofs.ExpectedLemmas.{kept_of}
-use Rattle.pc_state.proofs.SettleLemmas.{find-open_jobs, open_jobs-failure, open_jobs-stale, open_jobs-success, outstanding-find}
+use Rattle.pc_laws.proofs.TicketLaw.{find-open_jobs, open_jobs-failure, open_jobs-stale, open_jobs-success, outstanding-find}
 
 -- ---- a setup has a delay
 

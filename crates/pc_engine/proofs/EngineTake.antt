@@ -20,7 +20,7 @@ use Rattle.pc_engine.specs.Engine.{IsEngine}
 use Rattle.pc_state.specs.State.{Knows, MayCome}
 use Rattle.pc_engine.proofs.EngineEvents.{room-limit}
 use Rattle.pc_engine.proofs.EngineStep.{given_to, keeps-event}
-use Rattle.pc_state.proofs.SettleLemmas.{unsettled-above}
+use Rattle.pc_laws.proofs.TicketLaw.{unsettled-above}
 
 -- a call that was not refused for want of room has it
 pub not-full : (u : Unit {0}) (full : Bool) → ◌≡◌ {A = Result (Unit {0}) EngineFault} (Ok u)

@@ -16,3 +16,4 @@ pub mod SucceededLaw
 pub mod KeptLaw
 pub mod FailedLaw
 pub mod FirstLaw
+pub mod TicketLaw

@@ -33,7 +33,7 @@ use Rattle.pc_state.specs.declared.state.State.{State}
 pub use Rattle.pc_state.specs.Calls.{IsAtWork}
 use Rattle.pc_state.specs.OpenJobs.{kept_job, open_job}
 use Rattle.pc_state.specs.State.{Knows, KnowsHeld, KnowsPart, PartKeeps, entries_of, is_kept_back}
-use Rattle.pc_state.proofs.SettleLemmas.{find-open_jobs}
+use Rattle.pc_laws.proofs.TicketLaw.{find-open_jobs}
 use Rattle.pc_state.proofs.StateLemmas.{entries-free, entries-held}
 
 unsettled : (o : Option Job) (settled : Bool) (j : Job) → cond settled None o ≡ Some j → o ≡ Some j

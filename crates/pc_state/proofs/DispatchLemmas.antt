@@ -32,7 +32,7 @@ use Rattle.pc_state.specs.OpenJobs.{AreOpen, open_job, out_of}
 use Rattle.pc_state.proofs.OutLemmas.{out-dispatch, out-dispatch_other}
 use Rattle.pc_state.proofs.LedgerLemmas.{failures_of-le}
 use Rattle.pc_state.specs.State.{Knows, MayCome, PartKeeps, entries_of, is_early, is_kept_back, is_out, is_spent, is_waiting, waiting_of}
-use Rattle.pc_state.proofs.SettleLemmas.{find-open_jobs, job_of-above, unsettled-above}
+use Rattle.pc_laws.proofs.TicketLaw.{find-open_jobs, job_of-above, unsettled-above}
 use Rattle.pc_state.proofs.StateLemmas.{AreWaiting-along, entries-held, entries-same, part-same, waiting-held, waiting-same}
 use Rattle.pc_state.proofs.AtWork.{IsOpen, entry-found, open-record, polled-below, some-same}
 

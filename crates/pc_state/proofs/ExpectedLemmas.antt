@@ -12,14 +12,9 @@ use Rattle.pc_state.specs.contracts.jobs.OpenJobPartialEq.TheImpl as job_eq
 use Rattle.pc_state.specs.declared.jobs.OpenJob.{OpenJob}
 use Rattle.pc_state.specs.declared.state.State.{State}
 use Rattle.pc_task.specs.Jobs.{PlainJob}
-use Rattle.pc_state.specs.Calls.{IsExpected}
+use Rattle.pc_state.specs.Calls.{IsExpected, kept_of}
 use Rattle.pc_state.specs.OpenJobs.{kept_job, open_job}
 use Rattle.pc_state.specs.State.{Knows}
-
--- the job as it is kept where it is out
-abbrev pub kept_of : PlainJob → OpenJob
-kept_of job = record
-    { part = job.part; offset = job.entry.offset; epoch = job.epoch; attempt = job.attempt }
 
 -- a result of the job that is out, by the record that the log has
 pub expected-found : (given : Given) (h : List Event) (s : State) (job : PlainJob) (entry : Record)

@@ -32,7 +32,7 @@ use Rattle.pc_state.specs.OpenJobs.{AreOpen, open_job, out_of}
 use Rattle.pc_state.specs.Ledger.{Counts}
 use Rattle.pc_state.proofs.OutLemmas.{out-settled, out-settled_other}
 use Rattle.pc_state.specs.State.{AreWaiting, Knows, KnowsPart, MayCome, PartKeeps, entries_of, is_early, is_kept_back, is_out, is_spent, same_place, waiting_of}
-use Rattle.pc_state.proofs.SettleLemmas.{open_jobs-failure}
+use Rattle.pc_laws.proofs.TicketLaw.{open_jobs-failure}
 use Rattle.pc_state.proofs.StateLemmas.{entries-held, entries-same, waiting-same}
 use Rattle.pc_state.proofs.RetryLemmas.{In-permuted, same_place-flips}
 use Rattle.pc_state.proofs.AtWork.{IsAtWork, IsOpen, open-at}

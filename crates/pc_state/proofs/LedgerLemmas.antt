@@ -27,7 +27,7 @@ use Rattle.pc_state.specs.Ledger.{Counts, CountsPart}
 use Rattle.pc_state.specs.OpenJobs.{is_job_of, out_of}
 use Rattle.pc_state.specs.State.{Knows}
 use Rattle.pc_state.proofs.OutLemmas.{out-along, out-assign, out-dispatch, out-dispatch_other, out-settled, out-settled_other}
-use Rattle.pc_state.proofs.SettleLemmas.{one-job}
+use Rattle.pc_laws.proofs.TicketLaw.{one-job}
 use Rattle.pc_state.proofs.StateLemmas.{failures-same}
 
 -- the position of the first of some commits

@@ -20,7 +20,6 @@ pub mod OpenJobsLemmas
 pub mod PollMarks
 pub mod PollLemmas
 pub mod AssignLemmas
-pub mod SettleLemmas
 pub mod ReadyLemmas
 pub mod NextLemmas
 pub mod AtWork

@@ -16,7 +16,7 @@ use Rattle.pc_laws.proofs.Lists.{In-filtered, and-left, and-right, true-not-fals
 use Rattle.pc_laws.proofs.KeptLaw.{is_kept}
 use Rattle.pc_state.specs.Calls.{IsAtWork}
 use Rattle.pc_state.specs.OpenJobs.{is_job_of, out_of}
-use Rattle.pc_state.proofs.SettleLemmas.{jobs-fall, one-goes}
+use Rattle.pc_laws.proofs.TicketLaw.{jobs-fall, one-goes}
 
 -- ---- filters
 

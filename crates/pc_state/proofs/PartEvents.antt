@@ -21,6 +21,7 @@ use Rattle.pc_model.proofs.EpochLaws.{epoch_of-assign, is_held-assign}
 use Rattle.pc_model.proofs.KnownLaws.{assigned_commit-assign, polled_count-assign, polled_records-assign}
 use Rattle.pc_model.proofs.ListLemmas.{same_number}
 use Rattle.pc_model.proofs.SamePart.{other_part}
+use Rattle.pc_laws.proofs.HeldLaw.{held-has_log, log-below}
 use Rattle.pc_laws.proofs.PositionLaw.{held_apart}
 use Rattle.pc_commit.specs.Resume.{resumed_marks}
 use Rattle.pc_cursor.specs.Cursor.{not_below}
@@ -228,12 +229,6 @@ module _ (given : Given) (h : List Event) (old new : State) (p position size : �
 
 -- ---- what a state says of one part
 
-pub log-below : (logs : List (Option (List Record))) (p : ℕ)
-    → is_some (option_flatten (slice_get logs p)) ≡ true → p < length logs
-log-below [] p is = cc
-log-below (log ∷ logs) zero is = omega arith
-log-below (log ∷ logs) (suc p) is = let below : p < length logs = log-below logs p is in omega arith
-
 epoch-step : (b : Bool) (n k : ℕ) → n ≤ k → cond b (n + 1) n ≤ suc k
 epoch-step true n k le = omega arith
 epoch-step false n k le = omega arith
@@ -255,21 +250,6 @@ module _ (given : Given) (h : List Event) (s : State) (p : ℕ) (knows : Knows g
 
   pub known-epoch_small : (part d : PartState) → part ≡ get_or s.parts.items p d → part.epoch + 1 ≤ 4000001
   known-epoch_small part d is = omega (arith, known-epoch part d is, epoch_of-le h p, knows.limit)
-
--- a part that is held has a log
-pub held-has_log : (given : Given) (h : List Event) (p : ℕ) → IsLegal given h → is_held h p ≡ true
-    → has_log given p ≡ true
-held-has_log given [] p legal held = cc
-held-has_log given (Assign q epoch position text ∷ h) p legal held = elim (cases_Bool (q == p)) [
-  | inl same ↦ ap (has_log given) (sym (eqb-true q p same)) ∙ legal.0.known
-  | inr apart ↦ held-has_log given h p legal.2 (rw apart at held)
-]
-held-has_log given (Revoke q epoch ∷ h) p legal held =
-    held-has_log given h p legal.2 (held_apart (q == p) (is_held h p) held).1
-held-has_log given (Lost q epoch ∷ h) p legal held =
-    held-has_log given h p legal.2 (held_apart (q == p) (is_held h p) held).1
-held-has_log given (Crash ∷ h) p legal held = cc
-held-has_log given (v ∷ h) p legal held = held-has_log given h p legal.2 held
 
 -- a held part is known
 pub known-held : (given : Given) (h : List Event) (s : State) (p : ℕ) → Knows given h s

@@ -36,7 +36,7 @@ use Rattle.pc_state.proofs.LedgerLemmas.{counts-poll}
 use Rattle.pc_state.proofs.OutLemmas.{out-along}
 use Rattle.pc_state.specs.State.{Knows, KnowsHeld, MayCome, PartKeeps, entries_of, is_early, is_kept_back, is_out, is_spent, is_waiting, waiting_of}
 use Rattle.pc_state.proofs.OpenJobsLemmas.{AreOpen-along}
-use Rattle.pc_state.proofs.PartEvents.{held-has_log, log-below}
+use Rattle.pc_laws.proofs.HeldLaw.{held-has_log, log-below}
 use Rattle.pc_state.proofs.PollLemmas.{next_offsets, poll-within, window-next, window-open, window-poll, window-rises}
 use Rattle.pc_state.proofs.QueryLemmas.{In-All}
 use Rattle.pc_state.proofs.StateLemmas.{AreWaiting-along, each-set, entries-held, entries-same, is_out-same, waiting-held, waiting-same}

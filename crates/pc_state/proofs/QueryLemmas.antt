@@ -31,7 +31,7 @@ use Rattle.pc_state.specs.Ledger.{Counts}
 use Rattle.pc_state.specs.State.{Knows, PartKeeps, entries_of, same_place, waiting_of}
 use Rattle.pc_state.proofs.RetryLemmas.{distinct-none}
 use Rattle.pc_state.specs.OpenJobs.{AreOpen}
-use Rattle.pc_state.proofs.PartEvents.{held-has_log}
+use Rattle.pc_laws.proofs.HeldLaw.{held-has_log}
 
 -- a part without a log is not held
 pub unknown-free : (given : Given) (h : List Event) (p : ℕ) → IsLegal given h

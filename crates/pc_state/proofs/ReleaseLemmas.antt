@@ -26,7 +26,8 @@ use Rattle.pc_state.proofs.OutLemmas.{out-along}
 use Rattle.pc_state.specs.Ledger.{Counts}
 use Rattle.pc_state.specs.State.{AreReleased, AreWaiting, Knows, KnowsPart, MayCome, PartKeeps, entries_of, same_place, waiting_of}
 use Rattle.pc_state.proofs.OpenJobsLemmas.{AreOpen-along}
-use Rattle.pc_state.proofs.PartEvents.{epoch_of-le, held-has_log, log-below}
+use Rattle.pc_laws.proofs.HeldLaw.{held-has_log, log-below}
+use Rattle.pc_state.proofs.PartEvents.{epoch_of-le}
 use Rattle.std.specs.List.{IsDistinct}
 use Rattle.std.proofs.lemmas.Map.Keys.{IsDistinct-IsPermutation}
 use Rattle.pc_state.proofs.RetryLemmas.{In-permuted, distinct-filter, distinct-none, same_place-flips}

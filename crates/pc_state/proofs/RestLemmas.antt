@@ -36,7 +36,7 @@ use Rattle.pc_state.specs.State.{Knows, is_early, is_kept_back, is_out, is_spent
 use Rattle.pc_state.proofs.NextTime.{spent-is}
 use Rattle.pc_state.proofs.OpenLemmas.{open-polled, polled-open}
 use Rattle.pc_state.proofs.OutLemmas.{filter-none, filter-some}
-use Rattle.pc_state.proofs.PartEvents.{held-has_log, log-below}
+use Rattle.pc_laws.proofs.HeldLaw.{held-has_log, log-below}
 use Rattle.pc_state.proofs.PartsLemmas.{parts-In}
 use Rattle.pc_state.proofs.StateLemmas.{entries-held}
 use Rattle.pc_state.proofs.WaitingLemmas.{In-waiting, true-waits, waiting-In, waits-true}

@@ -21,7 +21,7 @@ use Rattle.pc_state.specs.OpenJobs.{AreOpen, is_job_of, open_job}
 use Rattle.pc_state.proofs.OutLemmas.{out-settled_other}
 use Rattle.pc_state.proofs.LedgerLemmas.{counts-stale}
 use Rattle.pc_state.specs.State.{Knows, MayCome, is_out}
-use Rattle.pc_state.proofs.SettleLemmas.{open_jobs-stale, outstanding-find}
+use Rattle.pc_laws.proofs.TicketLaw.{open_jobs-stale, outstanding-find}
 use Rattle.pc_state.proofs.StateLemmas.{AreWaiting-along, entries-same, part-same, waiting-same}
 
 -- ---- the jobs that are out, where a ticket has its result

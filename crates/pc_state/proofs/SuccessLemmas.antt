@@ -29,7 +29,7 @@ use Rattle.pc_state.specs.OpenJobs.{AreOpen, open_job, out_of}
 use Rattle.pc_state.proofs.OutLemmas.{out-settled, out-settled_other}
 use Rattle.pc_state.specs.Ledger.{Counts}
 use Rattle.pc_state.specs.State.{Knows, KnowsHeld, KnowsPart, MayCome, PartKeeps, entries_of, is_early, is_kept_back, is_out, is_spent, is_waiting, waiting_of}
-use Rattle.pc_state.proofs.SettleLemmas.{open_jobs-success}
+use Rattle.pc_laws.proofs.TicketLaw.{open_jobs-success}
 use Rattle.pc_state.proofs.StateLemmas.{AreWaiting-along, each-set, entries-held, entries-same, waiting-held, waiting-same}
 use Rattle.pc_state.proofs.AtWork.{IsAtWork, held-known}
 use Rattle.pc_state.proofs.WorkLemmas.{work-job, work-only, work-other_part, work-out}

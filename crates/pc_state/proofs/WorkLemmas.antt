@@ -16,7 +16,7 @@ use Rattle.pc_laws.proofs.StaleLaw.{job_of-In}
 use Rattle.pc_laws.proofs.SucceededLaw.{job-at}
 use Rattle.pc_state.specs.OpenJobs.{is_job_of}
 use Rattle.pc_state.specs.State.{is_out}
-use Rattle.pc_state.proofs.SettleLemmas.{one-job}
+use Rattle.pc_laws.proofs.TicketLaw.{one-job}
 use Rattle.pc_state.proofs.AtWork.{IsAtWork, open-at, open-record}
 
 module _ (given : Given) (h : List Event) (t p o : ℕ) (legal : IsLegal given h)

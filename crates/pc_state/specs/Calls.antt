@@ -11,6 +11,7 @@ use Rattle.pc_model.specs.Pressure.{is_blocked, is_upto_high}
 use Rattle.pc_model.specs.Retry.{failures_of}
 use Rattle.pc_laws.specs.Lists.{In}
 use Rattle.pc_task.specs.Jobs.{PlainJob}
+use Rattle.pc_state.specs.declared.jobs.OpenJob.{OpenJob}
 use Rattle.pc_state.specs.OpenJobs.{kept_job, open_job}
 
 -- the records of the part that a poll may take: those that were not polled, under pressure only
@@ -40,15 +41,15 @@ job_to_do given h worker p o = record {
   rules = given.setup.settings.rules;
 }
 
+-- the job as it is kept where it is out
+abbrev pub kept_of : PlainJob → OpenJob
+kept_of job = record
+    { part = job.part; offset = job.entry.offset; epoch = job.epoch; attempt = job.attempt }
+
 -- The result of this job is expected: the job that is out under its ticket has its part,
 -- offset, epoch and attempt, the log has its record, and its rules are those of the setup.
 pub record IsExpected (given : Given) (h : List Event) (job : PlainJob) : Type 0 where
-  pub out : option_map kept_job (open_job h job.ticket) ≡ Some (record {
-    part = job.part;
-    offset = job.entry.offset;
-    epoch = job.epoch;
-    attempt = job.attempt;
-  })
+  pub out : option_map kept_job (open_job h job.ticket) ≡ Some (kept_of job)
   pub entry : record_at given job.part job.entry.offset ≡ Some job.entry
   pub rules : job.rules ≡ given.setup.settings.rules
 

@@ -9,7 +9,8 @@ use Rattle.pc_broker_log.specs.Logs.{log_at}
 use Rattle.pc_cursor.specs.Cursor.{not_below}
 use Rattle.pc_cursor.specs.declared.cursor.Cursor.{Cursor}
 use Rattle.pc_commit.specs.Resume.{resumed_marks}
-use Rattle.pc_state.proofs.PartEvents.{knows-assigned, known-epoch, known-epoch_small, log-below}
+use Rattle.pc_laws.proofs.HeldLaw.{log-below}
+use Rattle.pc_state.proofs.PartEvents.{knows-assigned, known-epoch, known-epoch_small}
 use Rattle.pc_state.proofs.QueryLemmas.{read-none, read-of}
 use Rattle.pc_state.proofs.state.State.assign.Goals as goal
 

@@ -3,7 +3,8 @@ use Rattle.std.proofs.Common.{refl, set, subst, sym, ap, arith}
 use Rattle.pc_state.specs.declared.part.PartState.{PartState}
 use Rattle.pc_state.specs.State.{PartKeeps}
 use Rattle.pc_state.proofs.LedgerLemmas.{ledger-below}
-use Rattle.pc_state.proofs.PartEvents.{held-has_log, knows-failed, known-below, known-part, log-below}
+use Rattle.pc_laws.proofs.HeldLaw.{held-has_log, log-below}
+use Rattle.pc_state.proofs.PartEvents.{knows-failed, known-below, known-part}
 use Rattle.pc_state.proofs.state.State.commit_failed.Goals as goal
 
 pub commit_failed-requires : goal.commit_failed-requires

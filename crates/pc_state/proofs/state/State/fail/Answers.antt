@@ -5,7 +5,7 @@ use Rattle.pc_shards.specs.Entries.{of_part, with_busy}
 use Rattle.pc_state.specs.State.{is_early}
 use Rattle.pc_state.proofs.AtWork.{at-work, open-at, state-first}
 use Rattle.pc_state.proofs.OutLemmas.{out-some}
-use Rattle.pc_state.proofs.PartEvents.{held-has_log, log-below}
+use Rattle.pc_laws.proofs.HeldLaw.{held-has_log, log-below}
 use Rattle.pc_state.proofs.FailureLemmas.{knows-failure}
 use Rattle.pc_state.proofs.FailureTests.{early-false, early-then, early-true, entry-failures, entry-there, place-there, spent-then}
 use Rattle.pc_state.proofs.state.State.fail.Goals as goal

@@ -4,7 +4,7 @@ use Rattle.std.specs.Prelude.{nat_lt}
 use Rattle.std.proofs.lemmas.Bool.{lt-ltb}
 use Rattle.pc_state.specs.declared.ledger.PartLedger.{PartLedger}
 use Rattle.pc_state.proofs.LedgerLemmas.{ledger-below}
-use Rattle.pc_state.proofs.PartEvents.{held-has_log, log-below}
+use Rattle.pc_laws.proofs.HeldLaw.{held-has_log, log-below}
 use Rattle.pc_state.proofs.state.State.held_part.Goals as goal
 
 there : (p : ℕ) (items slice : List PartLedger) → slice ≡ items → p < length items

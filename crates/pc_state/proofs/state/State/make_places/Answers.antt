@@ -1,6 +1,6 @@
 -- A held part is known, and as many of its jobs are out as the ledger says.
 use Rattle.std.proofs.Common.{arith}
-use Rattle.pc_state.proofs.PartEvents.{held-has_log, log-below}
+use Rattle.pc_laws.proofs.HeldLaw.{held-has_log, log-below}
 use Rattle.pc_state.proofs.state.State.make_places.Goals as goal
 
 pub make_place-requires : goal.make_place-requires

@@ -6,7 +6,8 @@ use Rattle.pc_shards.specs.Entries.{Entry}
 use Rattle.pc_model.specs.declared.event.Event.TheVariants.{Poll}
 use Rattle.pc_state.specs.declared.part.PartState.{PartState}
 use Rattle.pc_state.specs.State.{MayCome}
-use Rattle.pc_state.proofs.PartEvents.{held-has_log, known-below, known-epoch, known-held, known-part}
+use Rattle.pc_laws.proofs.HeldLaw.{held-has_log}
+use Rattle.pc_state.proofs.PartEvents.{known-below, known-epoch, known-held, known-part}
 use Rattle.pc_state.proofs.PolledLemmas.{knows-taken, poll-above, poll-few, poll-next, poll-rises}
 use Rattle.pc_state.proofs.QueryLemmas.{if_ok-of}
 use Rattle.pc_state.proofs.state.State.poll.Goals as goal

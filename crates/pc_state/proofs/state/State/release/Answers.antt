@@ -3,7 +3,8 @@ use Rattle.std.proofs.Common.{◌+◌, ℕ, None, refl, ap, arith}
 use Rattle.std.specs.Vec.{with_item}
 use Rattle.pc_model.specs.Epochs.{epoch_of}
 use Rattle.pc_state.specs.declared.part.PartState.{PartState}
-use Rattle.pc_state.proofs.PartEvents.{held-has_log, known-below, known-epoch, known-epoch_small, log-below}
+use Rattle.pc_laws.proofs.HeldLaw.{held-has_log, log-below}
+use Rattle.pc_state.proofs.PartEvents.{known-below, known-epoch, known-epoch_small}
 use Rattle.pc_state.proofs.LedgerLemmas.{ledger-below}
 use Rattle.pc_state.proofs.ReleaseLemmas.{knows-lost, knows-revoked}
 use Rattle.pc_state.proofs.state.State.release.Goals as goal
