@@ -10,3 +10,4 @@ pub mod EngineLemmas
 pub mod EnginePoll
 pub mod EngineAssign
 pub mod EngineCommit
+pub mod EngineStall

@@ -2,3 +2,4 @@ pub mod Fault
 pub mod Effect
 pub mod Engine
 pub mod Ending
+pub mod Stall

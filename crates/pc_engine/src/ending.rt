@@ -9,12 +9,13 @@ use pc_task::Task;
 use pc_world::Link;
 
 impl<'a, L: Link, T: Task> Engine<'a, L, T> {
-    ghost use Rattle.std.specs.Prelude.{◌≡◌, ◌≤◌, Err};
+    ghost use Rattle.std.specs.Prelude.{◌≡◌, ◌≤◌, ℕ, Err};
     ghost use Rattle.pc_model.specs.Jobs.{has_ended, is_draining};
-    ghost use Rattle.pc_engine.specs.declared.fault.EngineFault.TheVariants.{NoMemory};
+    ghost use Rattle.pc_engine.specs.declared.fault.EngineFault.TheVariants.{NoMemory, NotDone};
     ghost use Rattle.pc_engine.specs.Effect.{Does, spare};
     ghost use Rattle.pc_engine.specs.Engine.{Keeps, given_of};
     ghost use Rattle.pc_engine.specs.Ending.{close_step, drain_step, finish_step};
+    ghost use Rattle.pc_engine.specs.Stall.{GoesOnUnlessDrained};
 
     /// Whether a drain was begun since the last crash.
     pub fn is_draining(&self) -> bool
@@ -55,10 +56,13 @@ impl<'a, L: Link, T: Task> Engine<'a, L, T> {
     /// Refuses with `Closed`; `NotDone` with the least held part that has a record which is incomplete
     /// or was not polled, and the least such offset; `Uncommitted` with the least held part for which
     /// a commit may be stored that has another position than the part; `JournalFull` or `NoMemory`;
-    /// the first that applies.
+    /// the first that applies. The part of a `NotDone` goes on, unless the engine drains before all of
+    /// its records were polled.
     pub fn finish(&mut self) -> Result<(), EngineFault>
         ensures effect { Does result (finish_step (given_of T.outcome self.old) self.old.journal.events)
             self.old.journal.events self.new.journal.events }
+        ensures goes_on { (p o : ℕ) → result ≡ Err (NotDone p o)
+            → GoesOnUnlessDrained (given_of T.outcome self.old) self.old.journal.events p }
         ensures memory { 1 ≤ spare self.old.journal → result ≡ Err NoMemory → ⊥ }
         ensures keeps { Keeps T.outcome self.old self.new }
     {

@@ -121,6 +121,7 @@ impl<'a, L: Link, T: Task> Engine<'a, L, T> {
     ghost use Rattle.pc_engine.specs.declared.settled.Settled.TheVariants.{Closed as Late, Stranger};
     ghost use Rattle.pc_state.specs.Calls.{IsExpected};
     ghost use Rattle.pc_engine.specs.Effect.{Settles, poll_refusal, poll_step, settle_step, spare, take_step, taken};
+    ghost use Rattle.pc_engine.specs.Stall.{NoneStalls};
 
     /// An engine over these logs, without an event, which has this function run. The error is want of
     /// memory and gives the link back.
@@ -281,7 +282,8 @@ impl<'a, L: Link, T: Task> Engine<'a, L, T> {
     }
 
     /// Takes the next record for a worker, below 256, and adds Dispatch. None exactly where no record
-    /// may be dispatched.
+    /// may be dispatched: then each held part with a record left goes on by another cause, unless the
+    /// engine drains.
     ///
     /// Refuses with `Closed`, `JournalFull` or `NoMemory`, the first that applies. Makes the place
     /// that `settle` will need.
@@ -291,6 +293,8 @@ impl<'a, L: Link, T: Task> Engine<'a, L, T> {
         ensures effect { Does (taken result)
             (take_step (given_of T.outcome self.old) self.old.journal.events worker)
             self.old.journal.events self.new.journal.events }
+        ensures goes_on { result ≡ Ok None
+            → NoneStalls (given_of T.outcome self.old) self.old.journal.events }
         ensures keeps { Keeps T.outcome self.old self.new }
     {
         self.runs()?;

@@ -9,12 +9,15 @@ mod engine;
 mod epochs;
 mod fault;
 mod polls;
+mod queries;
 mod settled;
 
 pub use engine::{Committed, Engine};
 pub use fault::EngineFault;
 pub use settled::Settled;
 
+#[cfg(test)]
+mod queries_tests;
 #[cfg(test)]
 mod records_tests;
 #[cfg(test)]

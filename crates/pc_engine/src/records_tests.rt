@@ -11,7 +11,7 @@ use std::process::Abort;
 use std::test::Fail;
 
 // One batch with the records (0, "a", "x"), (1, "b", "yy") and (2, "a", "zzz").
-const THREE_RECORDS: [u8; 91] = [
+pub(crate) const THREE_RECORDS: [u8; 91] = [
     0x00, 0x00, 0x00, 0x00, 0x00, 0x00, 0x00, 0x00, //
     0x00, 0x00, 0x00, 0x4F, 0x00, 0x00, 0x00, 0x00, 0x02, 0xD6, 0xFC, 0x11, 0xEE, //
     0x00, 0x00, 0x00, 0x00, 0x00, 0x02, //
@@ -25,7 +25,7 @@ const THREE_RECORDS: [u8; 91] = [
 ];
 
 /// Replies by their correlation ids: nothing is stored for part 0, and its commits are stored.
-const REPLIES: [&[u8]; 3] = [
+pub(crate) const REPLIES: [&[u8]; 3] = [
     b"\0\0\0\x21\0\0\0\x01\0\0\0\x01\0\x03log\0\0\0\x01\0\0\0\0\xff\xff\xff\xff\xff\xff\xff\xff\0\0\0\0",
     b"\0\0\0\x17\0\0\0\x02\0\0\0\x01\0\x03log\0\0\0\x01\0\0\0\0\0\0",
     b"\0\0\0\x17\0\0\0\x03\0\0\0\x01\0\x03log\0\0\0\x01\0\0\0\0\0\0",
@@ -51,7 +51,7 @@ fn next_result<'a>(
 }
 
 /// The result of the next record, which there has to be.
-fn some_result<'a>(
+pub(crate) fn some_result<'a>(
     alloc: Global,
     engine: &mut Engine<'a, Scripted>,
 ) -> Result<Finished<'a>, AllocError> {
@@ -59,7 +59,7 @@ fn some_result<'a>(
 }
 
 /// The logs of one part.
-fn one_log<'a>(alloc: Global, bytes: &'a [u8]) -> Result<BrokerLogs<'a>, Fail> {
+pub(crate) fn one_log<'a>(alloc: Global, bytes: &'a [u8]) -> Result<BrokerLogs<'a>, Fail> {
     let mut logs = BrokerLogs::new(alloc);
     let log = Log::check(alloc, bytes)?;
     logs.add(0, log)?;

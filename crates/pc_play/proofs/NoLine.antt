@@ -10,7 +10,7 @@ use Rattle.pc_model.specs.Given.{Given, has_log}
 use Rattle.pc_model.specs.Lawful.{IsLegal}
 use Rattle.pc_model.specs.Stored.{may_store}
 use Rattle.pc_offset_client.specs.Client.{kept_for}
-use Rattle.pc_state.proofs.PartEvents.{log-below}
+use Rattle.pc_laws.proofs.HeldLaw.{log-below}
 use Rattle.pc_engine.specs.Engine.{given_by}
 use Rattle.pc_engine.proofs.EngineLemmas.{start_of-given_by, stores_only-same}
 use Rattle.pc_play.specs.Kept.{IsKept}

@@ -9,7 +9,7 @@ mod PollOpen
 mod RestLemmas
 mod PhaseLemmas
 mod StoredLemmas
-mod UnfinishedLemmas
+pub mod UnfinishedLemmas
 mod AddLemmas
 pub mod RetryLemmas
 pub mod PolledLemmas

@@ -1,6 +1,6 @@
 -- The first record of a part that is incomplete or was not polled.
-use Rattle.std.proofs.Common.{◌≡◌, ◌-◌, ◌==◌, ℕ, Bool, true, false, cond, inl, inr, subst, List, [], ◌∷◌, ◌++◌, map, length, slice_get, Option, Some, None, refl, sym, ap, ◌∙◌, arith}
-use Rattle.std.specs.Prelude.{filter, not, option_map}
+use Rattle.std.proofs.Common.{◌≡◌, ◌⊎◌, ◌-◌, ◌==◌, ℕ, Bool, true, false, cond, inl, inr, subst, List, [], ◌∷◌, ◌++◌, map, length, slice_get, Option, Some, None, refl, sym, ap, ◌∙◌, arith}
+use Rattle.std.specs.Prelude.{filter, if◌then◌else◌, not, option_map}
 use Rattle.std.specs.List.{range_with_len}
 use Rattle.pc_model.specs.Numbers.{first_some}
 use Rattle.pc_model.specs.declared.event.Event.{Event}
@@ -24,6 +24,7 @@ use Rattle.pc_model.specs.Lawful.{held_parts, is_finished, is_nil, is_stored}
 use Rattle.pc_model.specs.Marks.{incomplete_offsets}
 use Rattle.pc_model.specs.Stored.{may_store}
 use Rattle.pc_laws.specs.Lists.{In}
+use Rattle.pc_laws.specs.Stall.{HasWork}
 use Rattle.pc_laws.proofs.Lists.{In-filtered}
 use Rattle.pc_laws.proofs.Passing.{option_cases}
 use Rattle.pc_state.specs.Queries.{other_stored, first_uncommitted, first_unfinished, uncommitted_at, unfinished, unfinished_at}
@@ -175,31 +176,56 @@ all-finished given h undone unstored = all-hold (is_finished given h) (held_part
     (held-none (is_held h p) (other_stored given h p) at.1
     (unpaired p _ (none-given (uncommitted_at given h) (parts_of given) unstored p at.0))))
 
+-- ---- that what is found is of a held part
+
+module _ (h : List Event) (rest : ℕ → Option ℕ) (p n : ℕ) where
+  abbrev of_held : ℕ → Option (ℕ × ℕ)
+  of_held q = option_map (λ o. (q, o)) (if is_held h q then rest q else None)
+
+  pair-part : (q : ℕ) (o : Option ℕ)
+      → ◌≡◌ {A = Option (ℕ × ℕ)} (option_map (λ m. (q, m)) o) (Some (p, n)) → q ≡ p
+  pair-part q None is = cc
+  pair-part q (Some m) is = ap (λ (x : Option (ℕ × ℕ)). option_map_or (λ (it : ℕ × ℕ). it.0) x q) is
+
+  pair-held : (q : ℕ) (b : Bool) (o : Option ℕ)
+      → ◌≡◌ {A = Option (ℕ × ℕ)} (option_map (λ m. (q, m)) (cond b o None)) (Some (p, n))
+      → (b ≡ true) × (o ≡ Some n)
+  pair-held q true None is = cc
+  pair-held q true (Some m) is = (
+    refl,
+    ap (λ (x : Option (ℕ × ℕ)). option_map (λ (it : ℕ × ℕ). it.1) x) is,
+  )
+  pair-held q false o is = cc
+
+  found-held : (ps : List ℕ) → first_some of_held ps ≡ Some (p, n)
+      → (is_held h p ≡ true) × (rest p ≡ Some n)
+  found-held [] is = cc
+  found-held (q ∷ ps) is = elim (option_cases (of_held q)) [
+    | inl none ↦ let more : first_some of_held ps ≡ Some (p, n) = rw none at is in found-held ps more
+    | inr some ↦
+        let here : of_held q ≡ Some (p, n) = some.1 ∙ (rw some.1 at is) in
+        subst (λ (u : ℕ). (is_held h u ≡ true) × (rest u ≡ Some n)) (pair-part q _ here)
+        (pair-held q (is_held h q) (rest q) here)
+  ]
+
 -- a part of which another commit may be stored is held
 pub uncommitted-held : (given : Given) (h : List Event) (p stored : ℕ)
     → Some (p, stored) ≡ first_uncommitted given h → is_held h p ≡ true
 unfolding first_uncommitted
-uncommitted-held given h p stored is = found (parts_of given) (sym is)
+uncommitted-held given h p stored is =
+    (found-held h (other_stored given h) p stored (parts_of given) (sym is)).0
+
+-- a part with a record that is incomplete or was not polled is held, and has work left
+pub unfinished-held : (given : Given) (h : List Event) (p o : ℕ)
+    → Some (p, o) ≡ first_unfinished given h → (is_held h p ≡ true) × HasWork given h p
+unfolding first_unfinished
+unfinished-held given h p o is =
+    let found = found-held h (unfinished given h) p o (parts_of given) (sym is) in
+    (found.0, left (open_records given h p) (unpolled_records given h p) found.1)
   where
-    pair-held : (q : ℕ) (b : Bool) (o : Option ℕ)
-        → ◌≡◌ {A = Option (ℕ × ℕ)} (option_map (λ n. (q, n)) (cond b o None)) (Some (p, stored))
-        → b ≡ true
-    pair-held q true o is = refl
-    pair-held q false o is = cc
-
-    pair-part : (q : ℕ) (o : Option ℕ)
-        → ◌≡◌ {A = Option (ℕ × ℕ)} (option_map (λ n. (q, n)) o) (Some (p, stored)) → q ≡ p
-    pair-part q None is = cc
-    pair-part q (Some n) is = ap (λ (x : Option (ℕ × ℕ)). option_map_or (λ (it : ℕ × ℕ). it.0) x q) is
-
-    found : (ps : List ℕ) → first_some (uncommitted_at given h) ps ≡ Some (p, stored)
-        → is_held h p ≡ true
-    found [] is = cc
-    found (q ∷ ps) is = elim (option_cases (uncommitted_at given h q)) [
-      | inl none ↦ let rest : first_some (uncommitted_at given h) ps ≡ Some (p, stored) = rw none at is in
-          found ps rest
-      | inr some ↦
-          let here : uncommitted_at given h q ≡ Some (p, stored) = some.1 ∙ (rw some.1 at is) in
-          subst (λ (u : ℕ). is_held h u ≡ true) (pair-part q _ here)
-          (pair-held q (is_held h q) (other_stored given h q) here)
-    ]
+    left : (rs ls : List Record)
+        → option_map (λ (r : Record). r.offset) (slice_get (rs ++ ls) 0) ≡ Some o
+        → ((r : Record) × In r ls) ⊎ ((r : Record) × In r rs)
+    left (r ∷ rs) ls first = inr (r, inl refl)
+    left [] (l ∷ ls) first = inl (l, inl refl)
+    left [] [] first = cc

@@ -2,6 +2,7 @@
 use Rattle.std.proofs.Common.{sym}
 use Rattle.pc_offset_client.specs.Client.{kept_for}
 use Rattle.pc_engine.proofs.EngineStep.{given_to}
+use Rattle.pc_engine.proofs.EngineStall.{none-stalls}
 use Rattle.pc_engine.proofs.EngineTake.{taken-keeps}
 use Rattle.pc_engine.proofs.engine.Engine.take.Goals as goal
 
@@ -29,3 +30,7 @@ invariant_of-self-2 g c = let room_left = rw (← c.self.view_is) at c.in_ok-has
     (c.in_ok-job.ensures.dispatched _ _ knows (sym next))
     c.in_ok-reserve.ensures.events c.push.ensures.events (c.outstanding.ensures _ _ knows)
     c.in_ok-reserve.ensures.room c.push.ensures.room
+
+pub returns-in_default-clause-goes_on : goal.returns-in_default-clause-goes_on
+returns-in_default-clause-goes_on g c = λ none. rw (← c.self.view_is)
+    (none-stalls _ _ c.self.invariant.knows.legal)
