@@ -1,0 +1,4 @@
+pub mod CallLemmas
+pub mod BlockLemmas
+pub mod RefusalLemmas
+pub mod OutsideLemmas

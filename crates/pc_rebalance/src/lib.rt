@@ -1,0 +1,10 @@
+//! The steps of a run on an engine: whether a step is due, and the calls of its block.
+#![tactic(auto)]
+
+mod calls;
+mod steps;
+
+pub use steps::apply;
+
+#[cfg(test)]
+mod tests;
