@@ -4,7 +4,7 @@
 mod calls;
 mod steps;
 
-pub use steps::apply;
+pub use steps::{apply, due};
 
 #[cfg(test)]
 mod tests;

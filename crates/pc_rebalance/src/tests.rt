@@ -1,33 +1,53 @@
-//! That memory is found, and which of the faults a step answers.
+//! That memory is found, which of the faults a step answers, and when a step is due.
 
-use crate::apply;
+use crate::{apply, due};
 use pc_broker_log::BrokerLogs;
 use pc_cursor::Log;
 use pc_engine::{Engine, EngineFault};
 use pc_model::{Act, Event, Journal, Setup, Step};
 use pc_offset_client::{ClientFault, TOPIC};
 use pc_offset_store::OffsetBroker;
-use pc_world::{FailingLink, Link};
+use pc_world::FailingLink;
 use std::alloc::{AllocError, Global};
 use std::test::Fail;
 
-/// Acts over two parts, and what each answers. The link's seventh call fails: the fetch of part 1
-/// after the first crash.
-const ACTS: [(Act, Result<(), EngineFault>); 11] = [
-    (Act::Revoke(0), Err(EngineFault::NotHeld)),
-    (Act::Assign(0), Ok(())),
-    (Act::Assign(1), Ok(())),
-    (Act::Revoke(0), Ok(())),
-    (Act::Assign(0), Ok(())),
-    (Act::Lose(1), Ok(())),
-    (Act::Assign(1), Ok(())),
+/// One batch with the records (0, "a", "x"), (1, "b", "yy") and (2, "a", "zzz").
+const THREE_RECORDS: [u8; 91] = [
+    // baseOffset, batchLength, partitionLeaderEpoch, magic, crc
+    0x00, 0x00, 0x00, 0x00, 0x00, 0x00, 0x00, 0x00, //
+    0x00, 0x00, 0x00, 0x4F, 0x00, 0x00, 0x00, 0x00, 0x02, 0xD6, 0xFC, 0x11, 0xEE, //
+    // attributes, lastOffsetDelta, baseTimestamp, maxTimestamp
+    0x00, 0x00, 0x00, 0x00, 0x00, 0x02, //
+    0x00, 0x00, 0x00, 0x00, 0x00, 0x00, 0x00, 0x00, //
+    0x00, 0x00, 0x00, 0x00, 0x00, 0x00, 0x00, 0x00, //
+    // producerId, producerEpoch, baseSequence, recordsCount
+    0xFF, 0xFF, 0xFF, 0xFF, 0xFF, 0xFF, 0xFF, 0xFF, //
+    0xFF, 0xFF, 0xFF, 0xFF, 0xFF, 0xFF, 0x00, 0x00, 0x00, 0x03, //
+    // the records
+    0x10, 0x00, 0x00, 0x00, 0x02, 0x61, 0x02, 0x78, 0x00, //
+    0x12, 0x00, 0x00, 0x02, 0x02, 0x62, 0x04, 0x79, 0x79, 0x00, //
+    0x14, 0x00, 0x00, 0x04, 0x02, 0x61, 0x06, 0x7A, 0x7A, 0x7A, 0x00,
+];
+
+/// Acts over two parts, what each answers, and whether a step after one success is due then: no
+/// record succeeds, and the run is at rest while part 0 is not held. The link's seventh call fails,
+/// which is the fetch of part 1 after the first crash.
+const ACTS: [(Act, Result<(), EngineFault>, bool); 11] = [
+    (Act::Revoke(0), Err(EngineFault::NotHeld), true),
+    (Act::Assign(0), Ok(()), false),
+    (Act::Assign(1), Ok(()), false),
+    (Act::Revoke(0), Ok(()), true),
+    (Act::Assign(0), Ok(()), false),
+    (Act::Lose(1), Ok(()), false),
+    (Act::Assign(1), Ok(()), false),
     (
         Act::Crash,
         Err(EngineFault::Client(ClientFault::LinkFailed)),
+        false,
     ),
-    (Act::Assign(1), Ok(())),
-    (Act::Crash, Ok(())),
-    (Act::Assign(2), Err(EngineFault::UnknownPart)),
+    (Act::Assign(1), Ok(()), false),
+    (Act::Crash, Ok(()), false),
+    (Act::Assign(2), Err(EngineFault::UnknownPart), false),
 ];
 
 /// Their events, each with its part.
@@ -59,13 +79,13 @@ fn seen(event: &Event) -> (&'static str, u32) {
     }
 }
 
-/// The empty logs of parts 0 and 1.
-fn empty_logs<'a>(alloc: Global) -> Result<BrokerLogs<'a>, Fail> {
+/// The logs of parts 0 and 1, the second of which is empty.
+fn two_logs<'a>(alloc: Global) -> Result<BrokerLogs<'a>, Fail> {
     let mut logs = BrokerLogs::new(alloc);
-    for part in [0, 1] {
-        let log = Log::check(alloc, b"")?;
-        logs.add(part, log)?;
-    }
+    let first = Log::check(alloc, &THREE_RECORDS)?;
+    logs.add(0, first)?;
+    let second = Log::check(alloc, b"")?;
+    logs.add(1, second)?;
     Ok(logs)
 }
 
@@ -78,30 +98,35 @@ fn link(alloc: Global) -> Result<FailingLink<OffsetBroker>, AllocError> {
     }
 }
 
-/// What the acts answer over these logs, and the journal that they leave.
+/// What the acts answer over these logs, whether a step after one success is due then, and the
+/// journal that they leave.
 fn answers(
     alloc: Global,
     logs: &BrokerLogs<'_>,
-) -> Result<([Result<(), EngineFault>; 11], Journal), AllocError> {
+) -> Result<([(Result<(), EngineFault>, bool); 11], Journal), AllocError> {
     let setup = Setup::with_defaults(alloc)?;
     let Ok(mut engine) = Engine::start(alloc, &setup, logs, link(alloc)?) else {
         return Err(AllocError);
     };
-    let mut answers = [Ok(()); 11];
+    let mut answers = [(Ok(()), false); 11];
     for i in 0..11 {
-        let act = ACTS[i].0;
-        answers[i] = apply(alloc, &mut engine, &Step { count: 0, act });
+        let step = Step {
+            count: 1,
+            act: ACTS[i].0,
+        };
+        let answer = apply(alloc, &mut engine, &step);
+        answers[i] = (answer, due(&engine, &step));
     }
     Ok((answers, engine.into_parts().0))
 }
 
 #[test]
 fn a_refusal_ends_a_step(rt: HostRuntime) -> Result<(), Fail> {
-    let logs = empty_logs(rt.alloc())?;
+    let logs = two_logs(rt.alloc())?;
     let (answers, journal) = answers(rt.alloc(), &logs)?;
     for i in 0..11 {
-        let (act, wanted) = ACTS[i];
-        assert_eq!(rt; answers[i], wanted, "at {i}, {act:?}");
+        let (act, answer, is_due) = ACTS[i];
+        assert_eq!(rt; answers[i], (answer, is_due), "at {i}, {act:?}");
     }
     assert_eq!(rt; journal.len(), 13);
     for i in 0..13 {
