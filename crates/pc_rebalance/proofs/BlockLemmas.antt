@@ -1,8 +1,8 @@
 -- A step's block keeps to the steps and to the pace of a run.
-use Rattle.std.proofs.Common.{◌≡◌, ◌∙◌, ℕ, ◌+◌, ◌≤◌, Bool, true, false, ◌&&◌, ◌||◌, ◌==◌, List, [], ◌∷◌, ◌++◌, Option, Some, None, Result, Ok, Err, refl, ap, sym, subst}
+use Rattle.std.proofs.Common.{◌≡◌, ◌∙◌, ℕ, ◌+◌, Bool, true, false, ◌&&◌, ◌||◌, ◌==◌, List, [], ◌∷◌, ◌++◌, Option, Some, None, Result, Ok, Err, refl, ap, sym, subst}
 use Rattle.std.specs.Option.{option_map_or}
-use Rattle.std.specs.Prelude.{nat_le, OnOk}
-use Rattle.std.proofs.lemmas.Bool.{and_from, and_parts, or_left, eq-eqb, le-leb}
+use Rattle.std.specs.Prelude.{OnOk}
+use Rattle.std.proofs.lemmas.Bool.{and_from, and_parts, or_left, eq-eqb}
 use Rattle.pc_model.specs.declared.commit.Commit.{Commit}
 use Rattle.pc_model.specs.declared.commit.SizedCommit.{SizedCommit}
 use Rattle.pc_model.specs.declared.event.Event.{Event}
@@ -16,7 +16,7 @@ use Rattle.pc_model.specs.Epochs.{epoch_of}
 use Rattle.pc_model.specs.Known.{commit_of}
 use Rattle.pc_model.specs.Lawful.{held_parts, is_nil}
 use Rattle.pc_model.specs.Pace.{goes_with, is_commit_paced, is_paced, is_paced_at, may_commit}
-use Rattle.pc_model.specs.Run.{is_at_rest, is_commit_due, success_count}
+use Rattle.pc_model.specs.Run.{is_commit_due}
 use Rattle.pc_model.specs.Steps.{is_step_due, next_step, same_act, Place, after_assign, follows, follows_at, is_next_part, may_begin, place_of}
 use Rattle.pc_offset_client.specs.declared.fault.ClientFault.{ClientFault}
 use Rattle.pc_offset_client.specs.declared.fault.ClientFault.TheVariants as client
@@ -31,10 +31,6 @@ or_right : (a b : Bool) → b ≡ true → (a || b) ≡ true
 or_right true b e = refl
 or_right false b e = e
 
-is_nil-of : {X : Type 0} (xs : List X) → is_nil xs ≡ true → xs ≡ []
-is_nil-of [] e = refl
-is_nil-of (x ∷ xs) e = cc
-
 -- ---- whether a block may begin
 
 same-act : (a : Act) → same_act a a ≡ true
@@ -44,29 +40,16 @@ same-act (act.Lose p) = eq-eqb p p refl
 same-act act.Crash = refl
 
 -- the next step may begin once it is due
-module _ (given : Given) (steps : List RunStep) (step : RunStep) (h : List Event)
-    (none : (place_of given h).left ≡ []) (next : next_step given steps h ≡ Some step) where
-  due-begins : is_step_due given step h ≡ true → may_begin given steps h step.act ≡ true
-  due-begins due =
-      let test : RunStep → Bool = λ s. same_act s.act step.act && is_step_due given s h in
-      and_from (is_nil (place_of given h).left)
-      (option_map_or test (next_step given steps h) false)
-      (ap (λ (left : List ℕ). is_nil left) none)
-      (ap (λ (o : Option RunStep). option_map_or test o false) next
-      ∙ and_from (same_act step.act step.act) (is_step_due given step h) (same-act step.act) due)
-
-  -- by its count
-  pub counted-begins : (n : ℕ) → n ≡ success_count h → step.count ≤ n
-      → may_begin given steps h step.act ≡ true
-  counted-begins n is le = due-begins (or_left (nat_le step.count (success_count h))
-      (is_at_rest given h) (le-leb step.count (success_count h)
-      (subst (λ (k : ℕ). step.count ≤ k) is le)))
-
-  -- or at rest
-  pub resting-begins : (rest : Bool) → rest ≡ is_at_rest given h → rest ≡ true
-      → may_begin given steps h step.act ≡ true
-  resting-begins rest is now = due-begins (or_right (nat_le step.count (success_count h))
-      (is_at_rest given h) (sym is ∙ now))
+pub due-begins : (given : Given) (steps : List RunStep) (step : RunStep) (h : List Event)
+    → (place_of given h).left ≡ [] → next_step given steps h ≡ Some step
+    → is_step_due given step h ≡ true → may_begin given steps h step.act ≡ true
+due-begins given steps step h none next due =
+    let test : RunStep → Bool = λ s. same_act s.act step.act && is_step_due given s h in
+    and_from (is_nil (place_of given h).left)
+    (option_map_or test (next_step given steps h) false)
+    (ap (λ (left : List ℕ). is_nil left) none)
+    (ap (λ (o : Option RunStep). option_map_or test o false) next
+    ∙ and_from (same_act step.act step.act) (is_step_due given step h) (same-act step.act) due)
 
 -- ---- what a call added
 

@@ -1,10 +1,10 @@
 //! The steps of a run: whether one is due, and its block.
 
-ghost use Rattle.std.specs.Prelude.{◌≡◌, List, [], IfErr, IsTrue, OnOk, Err, Some, true};
+ghost use Rattle.std.specs.Prelude.{◌≡◌, List, [], IfErr, OnOk, Err, true};
 ghost use Rattle.pc_model.specs.declared.step.Step.{Step};
 ghost use Rattle.pc_model.specs.Given.{has_log};
 ghost use Rattle.pc_model.specs.Pace.{is_paced};
-ghost use Rattle.pc_model.specs.Steps.{follows, is_step_due, may_begin, next_step, place_of};
+ghost use Rattle.pc_model.specs.Steps.{follows, is_step_due, may_begin, place_of};
 ghost use Rattle.pc_offset_client.specs.declared.fault.ClientFault.TheVariants.{LinkFailed};
 ghost use Rattle.pc_world.specs.World.{HasRisen};
 ghost use Rattle.pc_engine.specs.declared.fault.EngineFault.TheVariants.{Client as Failed};
@@ -24,14 +24,8 @@ use std::alloc::Global;
 /// Whether the time of the step has come: so many records have succeeded, or the run is at rest.
 /// Takes no memory.
 pub fn due<L: Link, T: Task>(engine: &Engine<'_, L, T>, step: &Step) -> bool
-    ensures due { result
+    ensures { result
         ≡ is_step_due (given_of T.outcome engine.now) step.now engine.now.journal.events }
-
-    // A step that is due may begin where it is the next one and no block is left unfinished.
-    ensures begins { let given = given_of T.outcome engine.now in
-        let h = engine.now.journal.events in
-        (steps : List Step) → IsTrue result → (place_of given h).left ≡ []
-        → next_step given steps h ≡ Some step.now → may_begin given steps h step.now.act ≡ true }
 {
     step.count <= engine.successes() || engine.at_rest()
 }
