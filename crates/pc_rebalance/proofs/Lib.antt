@@ -2,3 +2,4 @@ pub mod CallLemmas
 pub mod BlockLemmas
 pub mod RefusalLemmas
 pub mod OutsideLemmas
+pub mod HeldLemmas
