@@ -22,38 +22,16 @@ use Rattle.pc_model.specs.Bound.{assigns_in, logged_parts, may_assign}
 use Rattle.pc_laws.specs.Lists.{In}
 use Rattle.pc_laws.proofs.Lists.{and-left, and-right, or-cases, or-left, true-not-false, In-filter}
 use Rattle.pc_laws.proofs.DoneLaw.{In-range}
-use Rattle.pc_run_laws.proofs.RestLaw.{moves-before, moves-now, paced-before, paced-now, paced-with}
+use Rattle.pc_laws.proofs.HeldLaw.{held-has_log, log-below}
+use Rattle.pc_run_laws.proofs.RestLaw.{is_nil-of, moves-before, moves-now, paced-before, paced-now, paced-with}
 use Rattle.pc_run_laws.proofs.Tally.{Test, add_if, never, tally}
 use Rattle.pc_run_laws.proofs.RecordCounts.{add_if-one}
 use Rattle.pc_run_laws.proofs.PartCounts.{assigned}
 
--- ---- held parts have a log
-
-held-has_log : (given : Given) (h : List Event) (p : ℕ) → IsLegal given h → is_held h p ≡ true
-    → has_log given p ≡ true
-held-has_log given [] p legal held = cc
-held-has_log given (Assign q epoch position text ∷ h) p legal held = elim (cases_Bool (q == p)) [
-  | inl now ↦ subst (λ (x : ℕ). has_log given x ≡ true) (eqb-true q p now) legal.0.known
-  | inr apart ↦ held-has_log given h p legal.2 (rw apart at held)
-]
-held-has_log given (Revoke q epoch ∷ h) p legal held = elim (cases_Bool (q == p)) [
-  | inl now ↦ let nothing = rw now at held in cc nothing
-  | inr apart ↦ held-has_log given h p legal.2 (rw apart at held)
-]
-held-has_log given (Lost q epoch ∷ h) p legal held = elim (cases_Bool (q == p)) [
-  | inl now ↦ let nothing = rw now at held in cc nothing
-  | inr apart ↦ held-has_log given h p legal.2 (rw apart at held)
-]
-held-has_log given (Crash ∷ h) p legal held = cc
-held-has_log given (v ∷ h) p legal held = held-has_log given h p legal.2 held
+-- ---- held parts are parts that have a log
 
 has_log-part : (given : Given) (p : ℕ) → has_log given p ≡ true → In p (parts_of given)
-has_log-part given p log = elim (cases_lt p (length given.logs)) [
-  | inl below ↦ In-range 0 (length given.logs) p p (omega arith) below
-  | inr past ↦
-      let none = slice_get_past given.logs p past in
-      let nothing = rw none at log in cc nothing
-]
+has_log-part given p log = In-range 0 (length given.logs) p p (omega arith) (log-below given.logs p log)
 
 pub held-logged : (given : Given) (h : List Event) (p : ℕ) → IsLegal given h → is_held h p ≡ true
     → In p (logged_parts given)
@@ -97,10 +75,6 @@ record Begins (given : Given) (steps : List Step) (h : List Event) (act : Act) :
   is_act : same_act step.act act ≡ true
   whole : (place_of given h).left ≡ []
 
-nil-of : {X : Type 0} (xs : List X) → is_nil xs ≡ true → xs ≡ []
-nil-of [] e = refl
-nil-of (x ∷ xs) e = cc
-
 begins-step : (given : Given) (steps : List Step) (h : List Event) (act : Act) (found : Option Step)
     → slice_get steps (place_of given h).begun ≡ found → (place_of given h).left ≡ []
     → option_map_or (λ step. same_act step.act act && is_step_due given step h) found false ≡ true
@@ -112,7 +86,7 @@ begins-step given steps h act (Some step) at whole test =
 begins : (given : Given) (steps : List Step) (h : List Event) (act : Act) → may_begin given steps h act ≡ true
     → Begins given steps h act
 begins given steps h act may = begins-step given steps h act (slice_get steps (place_of given h).begun) refl
-    (nil-of (place_of given h).left (and-left _ _ may))
+    (is_nil-of (place_of given h).left (and-left _ _ may))
     (and-right (is_nil (place_of given h).left) _ may)
 
 found-below : (steps : List Step) (b : ℕ) (step : Step) → slice_get steps b ≡ Some step → suc b ≤ length steps

@@ -3,14 +3,14 @@
 use Rattle.std.proofs.Common.{◌≡◌, ℕ, zero, suc, ◌+◌, ◌≤◌, ◌<◌, Bool, true, false, not, ◌&&◌, ◌||◌, ◌==◌, List, [], ◌∷◌, Option, Some, refl, ap, sym, subst, ◌∙◌, arith, inl, inr, eq-eqb}
 use Rattle.std.specs.List.{list_any}
 use Rattle.std.specs.Cmp.Derive.{both_true}
-use Rattle.std.proofs.lemmas.Bool.{cases_Bool, cases_lt, eqb-true, ne_eqb}
+use Rattle.std.proofs.lemmas.Bool.{cases_Bool, cases_lt, eqb-true}
 use Rattle.pc_model.specs.declared.event.Event.{Event}
 use Rattle.pc_model.specs.declared.event.Event.TheVariants.{Assign, Poll, Dispatch, Success, Failure, Stale, Commit as Committed, CommitFailed, Revoke, Lost, Crash, Tick, Drain, Done, Closed}
 use Rattle.pc_model.specs.declared.outcome.Outcome.{Outcome}
 use Rattle.pc_model.specs.declared.outcome.Outcome.TheVariants.{Good, Bad}
 use Rattle.pc_model.specs.Record.{Record}
 use Rattle.pc_model.specs.Given.{Given, record_at}
-use Rattle.pc_model.specs.Jobs.{Job, job_of, jobs_of, dispatch_count, is_outstanding, is_settled, open_jobs, settles}
+use Rattle.pc_model.specs.Jobs.{Job, job_of, jobs_of, dispatch_count, is_settled, open_jobs, settles}
 use Rattle.pc_model.specs.Epochs.{epoch_of, is_held, is_current, is_current_ticket}
 use Rattle.pc_model.specs.Known.{is_complete, is_job_at, has_succeeded}
 use Rattle.pc_model.specs.Retry.{failures_in, failures_of}
@@ -21,12 +21,12 @@ use Rattle.pc_model.specs.Bound.{failing_attempts, failing_from, if_bad}
 use Rattle.pc_laws.specs.Lists.{In}
 use Rattle.pc_laws.specs.Kept.{is_assign_of}
 use Rattle.pc_laws.proofs.Lists.{and-left, and-right, not-true, true-not-false, In-filter, In-filtered, In-list_any, list_any-In}
-use Rattle.pc_laws.proofs.Passing.{option_cases}
 use Rattle.pc_laws.proofs.FirstLaw.{busy-out}
-use Rattle.pc_laws.proofs.JobsLaw.{job-of, keeps_jobs, open-job, out-job}
+use Rattle.pc_laws.proofs.JobsLaw.{keeps_jobs, open-job, out-job}
 use Rattle.pc_laws.proofs.OrderlyLaw.{eligible-first, eligible-free, next_record-In}
 use Rattle.pc_laws.proofs.StaleLaw.{job_of-In}
 use Rattle.pc_laws.proofs.SucceededLaw.{job-at}
+use Rattle.pc_laws.proofs.TicketLaw.{unsettled-above}
 use Rattle.pc_run_laws.proofs.AttemptsLaw.{attempts-most, failures-most}
 use Rattle.pc_run_laws.proofs.RestLaw.{eligible-incomplete}
 use Rattle.pc_run_laws.proofs.Tally.{Test, add_if, tally}
@@ -158,42 +158,6 @@ pub add_if-one : (b : Bool) → add_if b 0 ≤ 1
 add_if-one true = omega arith
 add_if-one false = omega arith
 
--- no ticket that has its result is above the number of dispatches
-ticket-le : (given : Given) (h : List Event) → IsLegal given h → (j : Job) → In j (jobs_of h)
-    → j.ticket ≤ dispatch_count h
-ticket-le given [] legal j i = absurd i
-ticket-le given (Dispatch t w p o e a ∷ h) legal j (inl same) =
-    let is : j.ticket ≡ t = ap (λ (k : Job). k.ticket) same in
-    let next : t ≡ dispatch_count h + 1 = legal.0.ticket_is in omega arith
-ticket-le given (Dispatch t w p o e a ∷ h) legal j (inr i) =
-    let le : j.ticket ≤ dispatch_count h = ticket-le given h legal.2 j i in omega arith
-ticket-le given (v ∷ h) legal j i = ticket-le given h legal.2 j i
-
-outstanding-le : (given : Given) (h : List Event) (t : ℕ) → IsLegal given h → is_outstanding h t ≡ true
-    → t ≤ dispatch_count h
-outstanding-le given h t legal out = elim (option_cases (job_of h t)) [
-  | inl none ↦ let nothing = rw none at out in cc nothing
-  | inr some ↦
-      let at = job-of h t some.0 some.1 in
-      let le : some.0.ticket ≤ dispatch_count h = ticket-le given h legal some.0 at.0 in
-      let is : some.0.ticket ≡ t = at.1 in omega arith
-]
-
-pub fresh : (given : Given) (h : List Event) (t : ℕ) → IsLegal given h → dispatch_count h < t
-    → is_settled h t ≡ false
-fresh given [] t legal above = refl
-fresh given (Dispatch u w p o e a ∷ h) t legal above = fresh given h t legal.2 (omega arith)
-fresh given (Success u answer ∷ h) t legal above =
-    let le : u ≤ dispatch_count h = outstanding-le given h u legal.2 legal.0.outstanding in
-    rw (ne_eqb u t (λ (k : u ≡ t). omega arith)) (fresh given h t legal.2 above)
-fresh given (Failure u code ready ∷ h) t legal above =
-    let le : u ≤ dispatch_count h = outstanding-le given h u legal.2 legal.0.outstanding in
-    rw (ne_eqb u t (λ (k : u ≡ t). omega arith)) (fresh given h t legal.2 above)
-fresh given (Stale u ∷ h) t legal above =
-    let le : u ≤ dispatch_count h = outstanding-le given h u legal.2 legal.0.outstanding in
-    rw (ne_eqb u t (λ (k : u ≡ t). omega arith)) (fresh given h t legal.2 above)
-fresh given (v ∷ h) t legal above = fresh given h t legal.2 above
-
 -- ---- the job of a ticket
 
 some-same : (i j : Job) → ◌≡◌ {A = Option Job} (Some i) (Some j) → i ≡ j
@@ -266,7 +230,7 @@ module _ (given : Given) (h : List Event) (p o : ℕ) (legal : IsLegal given h)
       let job : Job = record { ticket = t; worker = w; part = p; offset = o; epoch = e; attempt = a } in
       let place : In job (open_jobs (Dispatch t w p o e a ∷ h)) =
       In-filter (λ (x : Job). not (is_settled h x.ticket)) job (job ∷ jobs_of h) (inl refl)
-      (rw (fresh given h t legal (let k : t ≡ dispatch_count h + 1 = lawful.ticket_is in omega arith)) refl) in
+      (rw (unsettled-above given h legal t (let k : t ≡ dispatch_count h + 1 = lawful.ticket_is in omega arith)) refl) in
       let at : is_job_at (Some job) p (epoch_of h p) o ≡ true =
       both_true (both_true (eq-eqb p p refl) (eq-eqb e (epoch_of h p) lawful.epoch_is)) (eq-eqb o o refl) in
       let now : is_out (Dispatch t w p o e a ∷ h) p o ≡ true =

@@ -222,7 +222,7 @@ pub record IsAtEnd (given : Given) (steps : List Step) (h : List Event) : Type 0
   pub polled : (p : ℕ) → In p (held_parts given h) → open_records given h p ≡ []
       → unpolled_records given h p ≡ []
 
-is_nil-of : {X : Type 0} (xs : List X) → is_nil xs ≡ true → xs ≡ []
+pub is_nil-of : {X : Type 0} (xs : List X) → is_nil xs ≡ true → xs ≡ []
 is_nil-of [] e = refl
 is_nil-of (x ∷ xs) e = cc
 

@@ -24,9 +24,10 @@ use Rattle.pc_laws.specs.Lists.{In}
 use Rattle.pc_laws.proofs.Lists.{and-right, or-cases, In-append, In-filter, In-filtered, In-list_any, In-mapped, least_of-In}
 use Rattle.pc_laws.proofs.Passing.{option_cases}
 use Rattle.pc_laws.proofs.JobsLaw.{job-of}
+use Rattle.pc_laws.proofs.TicketLaw.{unsettled-above}
 use Rattle.pc_run_laws.proofs.RestLaw.{paced-before, paced-now, paced-with}
 use Rattle.pc_run_laws.proofs.Tally.{Test, add_if, never, tally, tally-le}
-use Rattle.pc_run_laws.proofs.RecordCounts.{fails, fresh, outcome-of}
+use Rattle.pc_run_laws.proofs.RecordCounts.{fails, outcome-of}
 
 abbrev pub dispatches : Test
 dispatches (Dispatch t w p o e a) h = true
@@ -157,7 +158,7 @@ dispatched : (given : Given) (f : Job → Bool) (h : List Event) (t w p o e a : 
     { ticket = t; worker = w; part = p; offset = o; epoch = e; attempt = a })) (count f (open_jobs h))
 dispatched given f h t w p o e a legal =
     ap (count f) (open_jobs-dispatch h t w p o e a
-    (fresh given h t legal.2 (let k : t ≡ dispatch_count h + 1 = legal.0.ticket_is in omega arith)))
+    (unsettled-above given h legal.2 t (let k : t ≡ dispatch_count h + 1 = legal.0.ticket_is in omega arith)))
 
 -- ---- results
 
