@@ -15,9 +15,9 @@ use Rattle.pc_laws.specs.Lists.{In}
 use Rattle.pc_laws.proofs.OrderlyLaw.{next_record-In}
 use Rattle.pc_run_laws.specs.Run.{IsRun}
 use Rattle.pc_run_laws.proofs.RestLaw.{paced-before}
-use Rattle.pc_run_laws.proofs.Tally.{Test, add_if, classes, never, sum-add, sum-le, sum-ones, sum_of, tally}
-use Rattle.pc_run_laws.proofs.RecordCounts.{add_if-one, fails}
-use Rattle.pc_run_laws.proofs.PartCounts.{assigned, dispatches_of, dues_of, fails_of, part-few, polls_of}
+use Rattle.pc_run_laws.proofs.Tally.{Test, add_if, add_if-apart, add_if-one, classes, never, sum-add, sum-le, sum-ones, sum_of, tally}
+use Rattle.pc_run_laws.proofs.RecordCounts.{fails}
+use Rattle.pc_run_laws.proofs.PartCounts.{assigned, dispatches_of, dues_of, fails_of, legal-before, part-few, polls_of}
 use Rattle.pc_run_laws.proofs.Moves.{assigned-few, blocks, held-logged, moves, pending, revokes}
 use Rattle.pc_run_laws.proofs.Drains.{drains, drains-once, finishes, finishes-once, saves-once, saves_of}
 use Rattle.pc_run_laws.proofs.Ticks.{dispatches, due-few, due_ticks, early-few, early_ticks, open-few, results}
@@ -47,10 +47,6 @@ commit-kinds false false = refl
 tick-kinds : (due : Bool) → add_if due 0 + add_if (not due) 0 ≡ 1
 tick-kinds true = refl
 tick-kinds false = refl
-
-out : (b : Bool) (n : ℕ) → add_if b n ≡ add_if b 0 + n
-out true n = omega arith
-out false n = omega arith
 
 kinds : Given → List Event → ℕ
 kinds given h = tally never dispatches h + tally never results h + tally never polls h
@@ -90,27 +86,27 @@ more-kinds : (given : Given) (e : Event) (h : List Event) → kinds given (e ∷
 unfolding kinds kind
 more-kinds given e h =
     let a : tally never dispatches (e ∷ h) ≡ add_if (dispatches e h) 0 + tally never dispatches h =
-    out (dispatches e h) (tally never dispatches h) in
+    add_if-apart (dispatches e h) (tally never dispatches h) in
     let b : tally never results (e ∷ h) ≡ add_if (results e h) 0 + tally never results h =
-    out (results e h) (tally never results h) in
+    add_if-apart (results e h) (tally never results h) in
     let c : tally never polls (e ∷ h) ≡ add_if (polls e h) 0 + tally never polls h =
-    out (polls e h) (tally never polls h) in
+    add_if-apart (polls e h) (tally never polls h) in
     let d : tally never (dues given) (e ∷ h) ≡ add_if (dues given e h) 0 + tally never (dues given) h =
-    out (dues given e h) (tally never (dues given) h) in
+    add_if-apart (dues given e h) (tally never (dues given) h) in
     let f : tally never (saves given) (e ∷ h) ≡ add_if (saves given e h) 0 + tally never (saves given) h =
-    out (saves given e h) (tally never (saves given) h) in
+    add_if-apart (saves given e h) (tally never (saves given) h) in
     let g : tally never (revokes given) (e ∷ h) ≡ add_if (revokes given e h) 0 + tally never (revokes given) h =
-    out (revokes given e h) (tally never (revokes given) h) in
+    add_if-apart (revokes given e h) (tally never (revokes given) h) in
     let i : tally never (due_ticks given) (e ∷ h) ≡ add_if (due_ticks given e h) 0 + tally never (due_ticks given) h =
-    out (due_ticks given e h) (tally never (due_ticks given) h) in
+    add_if-apart (due_ticks given e h) (tally never (due_ticks given) h) in
     let j : tally never (early_ticks given) (e ∷ h) ≡ add_if (early_ticks given e h) 0 + tally never (early_ticks given) h =
-    out (early_ticks given e h) (tally never (early_ticks given) h) in
+    add_if-apart (early_ticks given e h) (tally never (early_ticks given) h) in
     let k : tally never moves (e ∷ h) ≡ add_if (moves e h) 0 + tally never moves h =
-    out (moves e h) (tally never moves h) in
+    add_if-apart (moves e h) (tally never moves h) in
     let l : tally never drains (e ∷ h) ≡ add_if (drains e h) 0 + tally never drains h =
-    out (drains e h) (tally never drains h) in
+    add_if-apart (drains e h) (tally never drains h) in
     let m : tally never finishes (e ∷ h) ≡ add_if (finishes e h) 0 + tally never finishes h =
-    out (finishes e h) (tally never finishes h) in
+    add_if-apart (finishes e h) (tally never finishes h) in
     omega arith
 
 nil-kinds : (given : Given) → 0 ≡ kinds given []
@@ -127,9 +123,6 @@ length-kinds given steps (e ∷ h) pace =
     omega arith
 
 -- ---- the parts
-
-legal-before : (given : Given) (e : Event) (h : List Event) → IsLegal given (e ∷ h) → IsLegal given h
-legal-before given e h legal = legal.2
 
 dispatch-part : (given : Given) (e : Event) (h : List Event) → IsLegal given (e ∷ h) → dispatches e h ≡ true
     → (p : ℕ) × In p (logged_parts given) × (dispatches_of p e h ≡ true)

@@ -23,8 +23,7 @@ use Rattle.pc_laws.proofs.JobsLaw.{out-job}
 use Rattle.pc_laws.proofs.OrderlyLaw.{next_record-In}
 use Rattle.pc_laws.proofs.StaleLaw.{same_part-stale}
 use Rattle.pc_run_laws.proofs.RestLaw.{IsAtEnd, at-end, ends-in, moves-before, moves-now, no-job, none-begins, none-eligible, not-due, paced-before, paced-with, part-rests}
-use Rattle.pc_run_laws.proofs.Tally.{Test, add_if, never, tally}
-use Rattle.pc_run_laws.proofs.RecordCounts.{add_if-one}
+use Rattle.pc_run_laws.proofs.Tally.{Test, add_if, add_if-one, never, tally}
 use Rattle.pc_run_laws.proofs.Moves.{held-part}
 
 abbrev pub drains : Test

@@ -24,8 +24,7 @@ use Rattle.pc_laws.proofs.Lists.{and-left, and-right, or-cases, or-left, true-no
 use Rattle.pc_laws.proofs.DoneLaw.{In-range}
 use Rattle.pc_laws.proofs.HeldLaw.{held-has_log, log-below}
 use Rattle.pc_run_laws.proofs.RestLaw.{is_nil-of, moves-before, moves-now, paced-before, paced-now, paced-with}
-use Rattle.pc_run_laws.proofs.Tally.{Test, add_if, never, tally}
-use Rattle.pc_run_laws.proofs.RecordCounts.{add_if-one}
+use Rattle.pc_run_laws.proofs.Tally.{Test, add_if, add_if-apart, add_if-one, never, tally}
 use Rattle.pc_run_laws.proofs.PartCounts.{assigned}
 
 -- ---- held parts are parts that have a log
@@ -411,10 +410,6 @@ held-once given h p =
     let few : count_in p (held_parts given h) ≤ count_in p (parts_of given) = count-filter (is_held h) p (parts_of given) in
     let once : count_in p (parts_of given) ≤ 1 = count-range 0 (length given.logs) p in omega arith
 
-add-out : (b : Bool) (n : ℕ) → add_if b n ≡ add_if b 0 + n
-add-out true n = omega arith
-add-out false n = omega arith
-
 add-if : (b : Bool) (n : ℕ) → (if b then n + 1 else n) ≡ add_if b n
 add-if true n = omega arith
 add-if false n = refl
@@ -454,9 +449,9 @@ module _ (given : Given) (steps : List Step) (h : List Event) (p : ℕ) (so_far 
       ≡ add_if (may_assign act p) 0 + assigns_in (drop (suc (place_of given h).begun) steps) p =
       ap (λ (b : Bool). add_if b (assigns_in (drop (suc (place_of given h).begun) steps) p))
       (assigns-act at.step.act act p at.is_act)
-      ∙ add-out (may_assign act p) (assigns_in (drop (suc (place_of given h).begun) steps) p) in
+      ∙ add_if-apart (may_assign act p) (assigns_in (drop (suc (place_of given h).begun) steps) p) in
       let more : tally never (assigned p) (e ∷ h) ≡ add_if (assigned p e h) 0 + tally never (assigned p) h =
-      add-out (assigned p e h) (tally never (assigned p) h) in
+      add_if-apart (assigned p e h) (tally never (assigned p) h) in
       let begun : suc (place_of given h).begun ≡ (place_of given (e ∷ h)).begun = omega arith in
       subst (λ (b : ℕ). tally never (assigned p) (e ∷ h) + count_in p (place_of given (e ∷ h)).left
       + assigns_in (drop b steps) p ≤ assigns_in steps p) begun (omega arith)
@@ -471,13 +466,13 @@ module _ (given : Given) (steps : List Step) (h : List Event) (p : ℕ) (so_far 
       let same : x ≡ q = eqb-true x q next in
       let count : count_in p (place_of given h).left ≡ add_if (q == p) 0 + count_in p left =
       ap (count_in p) is ∙ ap (λ (y : ℕ). add_if (y == p) (count_in p left)) same
-      ∙ add-out (q == p) (count_in p left) in
+      ∙ add_if-apart (q == p) (count_in p left) in
       let begun : (place_of given (Assign q epoch position text ∷ h)).begun ≡ (place_of given h).begun = rw is refl in
       let rest : (place_of given (Assign q epoch position text ∷ h)).left ≡ left = rw is refl in
       let rest_count : count_in p (place_of given (Assign q epoch position text ∷ h)).left ≡ count_in p left =
       ap (count_in p) rest in
       let more : tally never (assigned p) (Assign q epoch position text ∷ h)
-      ≡ add_if (q == p) 0 + tally never (assigned p) h = add-out (q == p) (tally never (assigned p) h) in
+      ≡ add_if (q == p) 0 + tally never (assigned p) h = add_if-apart (q == p) (tally never (assigned p) h) in
       subst (λ (b : ℕ). tally never (assigned p) (Assign q epoch position text ∷ h)
       + count_in p (place_of given (Assign q epoch position text ∷ h)).left
       + assigns_in (drop b steps) p ≤ assigns_in steps p) (sym begun) (omega arith)

@@ -49,7 +49,7 @@ dues_of given p _ h = false
 abbrev pub succeeds_of : ℕ → Test
 succeeds_of p e h = is_success_of e h p (epoch_of h p)
 
-legal-before : (given : Given) (e : Event) (h : List Event) → IsLegal given (e ∷ h) → IsLegal given h
+pub legal-before : (given : Given) (e : Event) (h : List Event) → IsLegal given (e ∷ h) → IsLegal given h
 legal-before given e h legal = legal.2
 
 -- ---- sums over the records of a part

@@ -29,7 +29,7 @@ use Rattle.pc_laws.proofs.SucceededLaw.{job-at}
 use Rattle.pc_laws.proofs.TicketLaw.{unsettled-above}
 use Rattle.pc_run_laws.proofs.AttemptsLaw.{attempts-most, failures-most}
 use Rattle.pc_run_laws.proofs.RestLaw.{eligible-incomplete}
-use Rattle.pc_run_laws.proofs.Tally.{Test, add_if, tally}
+use Rattle.pc_run_laws.proofs.Tally.{Test, add_if, add_if-one, tally}
 
 -- ---- the tests
 
@@ -153,10 +153,6 @@ begins given e h p o anew_now =
     let bad : tally (anew p) (fails_at given p o) (e ∷ h) ≡ 0 = rw anew_now refl in
     let good : tally (anew p) (succeeds_at p o) (e ∷ h) ≡ 0 = rw anew_now refl in
     record { dispatched = omega arith; failed = omega arith; succeeded = omega arith }
-
-pub add_if-one : (b : Bool) → add_if b 0 ≤ 1
-add_if-one true = omega arith
-add_if-one false = omega arith
 
 -- ---- the job of a ticket
 

@@ -42,9 +42,17 @@ module _ {K : Type 0} where
   sum-ones [] = refl
   sum-ones (k ∷ ks) = let rest : sum_of (λ (u : K). 1) ks ≡ length ks = sum-ones ks in omega arith
 
-add_if-le : (b : Bool) (n : ℕ) → n ≤ add_if b n
+pub add_if-le : (b : Bool) (n : ℕ) → n ≤ add_if b n
 add_if-le true n = omega arith
 add_if-le false n = omega arith
+
+pub add_if-one : (b : Bool) → add_if b 0 ≤ 1
+add_if-one true = omega arith
+add_if-one false = omega arith
+
+pub add_if-apart : (b : Bool) (n : ℕ) → add_if b n ≡ add_if b 0 + n
+add_if-apart true n = omega arith
+add_if-apart false n = omega arith
 
 -- ---- by classes
 

@@ -26,7 +26,7 @@ use Rattle.pc_laws.proofs.Passing.{option_cases}
 use Rattle.pc_laws.proofs.JobsLaw.{job-of}
 use Rattle.pc_laws.proofs.TicketLaw.{unsettled-above}
 use Rattle.pc_run_laws.proofs.RestLaw.{paced-before, paced-now, paced-with}
-use Rattle.pc_run_laws.proofs.Tally.{Test, add_if, never, tally, tally-le}
+use Rattle.pc_run_laws.proofs.Tally.{Test, add_if, add_if-apart, add_if-le, add_if-one, never, tally, tally-le}
 use Rattle.pc_run_laws.proofs.RecordCounts.{fails, outcome-of}
 
 abbrev pub dispatches : Test
@@ -76,10 +76,6 @@ some-thing h = tt
 abbrev count : (Job → Bool) → List Job → ℕ
 count f [] = 0
 count f (j ∷ js) = add_if (f j) (count f js)
-
-add_if-le : (b : Bool) (n : ℕ) → n ≤ add_if b n
-add_if-le true n = omega arith
-add_if-le false n = omega arith
 
 count-filter : (f g : Job → Bool) (js : List Job) → count f (filter g js) ≤ count f js
 count-filter f g [] = omega arith
@@ -407,10 +403,6 @@ abbrev last_early : Given → List Event → ℕ
 last_early given [] = 0
 last_early given (e ∷ h) = add_if (early_ticks given e h) 0
 
-add_if-most : (b : Bool) → add_if b 0 ≤ 1
-add_if-most true = omega arith
-add_if-most false = omega arith
-
 -- the result of a failure comes right after such a tick
 early-then : (given : Given) (h : List Event) (e : Event) → goes_with given h e ≡ true
     → last_early given h ≤ add_if (failed_results given e h) 0
@@ -418,7 +410,7 @@ early-then given [] e goes = omega arith
 early-then given (Tick now ∷ h) e goes = elim (or-cases (is_time given h now) (is_failed_result given (Tick now ∷ h) e) goes) [
   | inl due ↦ rw due (omega arith)
   | inr failed ↦ let one : add_if (failed_results given e (Tick now ∷ h)) 0 ≡ 1 = rw failed refl in
-      let most : add_if (not (is_time given h now)) 0 ≤ 1 = add_if-most (not (is_time given h now)) in omega arith
+      let most : add_if (not (is_time given h now)) 0 ≤ 1 = add_if-one (not (is_time given h now)) in omega arith
 ]
 early-then given (Assign q epoch position text ∷ h) e goes = omega arith
 early-then given (Poll q count last ∷ h) e goes = omega arith
@@ -435,10 +427,6 @@ early-then given (Drain ∷ h) e goes = omega arith
 early-then given (Done ∷ h) e goes = omega arith
 early-then given (Closed ∷ h) e goes = omega arith
 
-add-apart : (b : Bool) (n : ℕ) → add_if b n ≡ add_if b 0 + n
-add-apart true n = omega arith
-add-apart false n = omega arith
-
 early-failed : (given : Given) (steps : List Step) (h : List Event) → is_paced given steps h ≡ true
     → tally never (early_ticks given) h ≤ tally never (failed_results given) h + last_early given h
 early-failed given steps [] pace = omega arith
@@ -447,10 +435,10 @@ early-failed given steps (e ∷ h) pace =
     early-failed given steps h (paced-before given steps e h pace) in
     let then : last_early given h ≤ add_if (failed_results given e h) 0 = early-then given h e (paced-with given steps e h pace) in
     let early : tally never (early_ticks given) (e ∷ h) ≡ add_if (early_ticks given e h) 0 + tally never (early_ticks given) h =
-    add-apart (early_ticks given e h) (tally never (early_ticks given) h) in
+    add_if-apart (early_ticks given e h) (tally never (early_ticks given) h) in
     let failed : tally never (failed_results given) (e ∷ h)
     ≡ add_if (failed_results given e h) 0 + tally never (failed_results given) h =
-    add-apart (failed_results given e h) (tally never (failed_results given) h) in
+    add_if-apart (failed_results given e h) (tally never (failed_results given) h) in
     let le : tally never (early_ticks given) (e ∷ h)
     ≤ tally never (failed_results given) (e ∷ h) + add_if (early_ticks given e h) 0 = omega arith in le
 
@@ -464,7 +452,7 @@ early-out given steps (Tick now ∷ h) pace =
       | inr vain ↦
           let job = In-list_any (in_vain given) (open_jobs h) vain in
           let some : 1 ≤ count (in_vain given) (open_jobs h) = count-some (in_vain given) job.0 (open_jobs h) job.1 job.2 in
-          let most : add_if (not (is_time given h now)) 0 ≤ 1 = add_if-most (not (is_time given h now)) in
+          let most : add_if (not (is_time given h now)) 0 ≤ 1 = add_if-one (not (is_time given h now)) in
           let le : add_if (not (is_time given h now)) 0 ≤ count (in_vain given) (open_jobs h) = omega arith in le
     ]
 early-out given steps (Assign q epoch position text ∷ h) pace = omega arith
