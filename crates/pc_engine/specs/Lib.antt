@@ -3,3 +3,4 @@ pub mod Effect
 pub mod Engine
 pub mod Ending
 pub mod Stall
+pub mod Stand

@@ -156,10 +156,11 @@ impl<'a, L: Link, T: Task> Engine<'a, L, T> {
         })
     }
 
-    /// The events so far: with a place for the result of each job that is out, they are at most
-    /// 4,000,000.
+    /// The events so far, a legal history: with a place for the result of each job that is out, they
+    /// are at most 4,000,000.
     pub fn journal(&self) -> &Journal
         ensures value { result.now ≡ self.now.journal }
+        ensures legal { IsLegal (given_of T.outcome self.now) self.now.journal.events }
         ensures limit { length self.now.journal.events
             + length (open_jobs self.now.journal.events) ≤ MAX_EVENTS }
     {

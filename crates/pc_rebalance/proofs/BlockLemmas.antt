@@ -24,8 +24,10 @@ use Rattle.pc_engine.specs.declared.fault.EngineFault.{EngineFault}
 use Rattle.pc_engine.specs.declared.fault.EngineFault.TheVariants.{BadMap, NoMemory}
 use Rattle.pc_engine.specs.Effect.{Does, assign_after, assign_refusal, assign_with, crash_after, crash_refusal, lose_after, lose_refusal, refuses, revoke_after, revoke_refusal, revoke_with}
 use Rattle.pc_engine.specs.Fault.{engine_fault_of}
-use Rattle.pc_rebalance.specs.Apply.{Applies, AssignsAll, Stand, Then, outcome_alone}
-use Rattle.pc_rebalance.specs.Block.{AnyMayCome, next_place}
+use Rattle.pc_engine.specs.Stand.{Stand}
+use Rattle.pc_rebalance.specs.Apply.{Applies, AssignsAll, Then, outcome_alone}
+use Rattle.pc_rebalance.specs.Block.{next_place}
+use Rattle.pc_run_laws.specs.Run.{AnyMayCome}
 
 or_right : (a b : Bool) → b ≡ true → (a || b) ≡ true
 or_right true b e = refl

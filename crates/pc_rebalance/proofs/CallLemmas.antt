@@ -17,7 +17,8 @@ use Rattle.pc_engine.specs.declared.fault.EngineFault.{EngineFault}
 use Rattle.pc_engine.specs.declared.fault.EngineFault.TheVariants.{Client, NoMemory}
 use Rattle.pc_engine.specs.Engine.{EngineView, Asks, Keeps, given_of}
 use Rattle.pc_engine.specs.Effect.{Step, Does, IsFetched, IsStored, KeepsStore, assign_refusal, assign_step, revoke_after, revoke_refusal, revoke_step, revoke_with}
-use Rattle.pc_rebalance.specs.Apply.{Assigns, AssignsAll, DoesAlone, Revokes, Stand, outcome_alone, stand_of}
+use Rattle.pc_engine.specs.Stand.{DoesAlone, Stand, stand_of}
+use Rattle.pc_rebalance.specs.Apply.{Assigns, AssignsAll, Revokes, outcome_alone}
 
 -- ---- a revocation
 

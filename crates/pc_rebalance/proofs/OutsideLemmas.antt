@@ -19,7 +19,8 @@ use Rattle.pc_engine.specs.declared.fault.EngineFault.{EngineFault}
 use Rattle.pc_engine.specs.declared.fault.EngineFault.TheVariants.{JournalFull, NoMemory}
 use Rattle.pc_engine.specs.Effect.{Step, Does, assign_after, assign_refusal, assign_step, assign_with, crash_after, crash_refusal, crash_step, held_refusal, is_full, lose_after, lose_step, revoke_after}
 use Rattle.pc_engine.specs.Fault.{engine_fault_of}
-use Rattle.pc_rebalance.specs.Apply.{Applies, Assigns, AssignsAll, DoesAlone, Stand, Then, give_back_step, outcome_alone}
+use Rattle.pc_engine.specs.Stand.{DoesAlone, Stand}
+use Rattle.pc_rebalance.specs.Apply.{Applies, Assigns, AssignsAll, Then, give_back_step, outcome_alone}
 use Rattle.pc_rebalance.specs.Refusal.{IsFromOutside, MayAssign, MayCrash, MayDo, MayLose}
 use Rattle.pc_rebalance.proofs.BlockLemmas.{Comes, assigned-after, comes-crash}
 use Rattle.pc_rebalance.proofs.BlockLemmas.Comes.{Refused, Whole}

@@ -18,7 +18,8 @@ use Rattle.pc_engine.specs.declared.fault.EngineFault.{EngineFault}
 use Rattle.pc_engine.specs.declared.fault.EngineFault.TheVariants.{AlreadyHeld, BadMap, Client, Closed, Draining, JournalFull, NoMemory, NotHeld, UnknownPart}
 use Rattle.pc_engine.specs.Effect.{Does, assign_after, assign_refusal, assign_step, assign_with, crash_after, crash_refusal, crash_step, is_full, lose_after, lose_refusal, lose_step, revoke_after, revoke_refusal}
 use Rattle.pc_engine.specs.Fault.{engine_fault_of}
-use Rattle.pc_rebalance.specs.Apply.{Applies, Assigns, AssignsAll, DoesAlone, Stand, Then, give_back_step, outcome_alone}
+use Rattle.pc_engine.specs.Stand.{DoesAlone, Stand}
+use Rattle.pc_rebalance.specs.Apply.{Applies, Assigns, AssignsAll, Then, give_back_step, outcome_alone}
 
 -- ---- no refusal of a call's own is the client's
 

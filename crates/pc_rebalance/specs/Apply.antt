@@ -4,28 +4,13 @@ use Rattle.pc_model.specs.declared.commit.Commit.{Commit}
 use Rattle.pc_model.specs.declared.event.Event.{Event}
 use Rattle.pc_model.specs.declared.step.Act.{Act}
 use Rattle.pc_model.specs.declared.step.Act.TheVariants as act
-use Rattle.pc_model.specs.Broker.{Broker}
 use Rattle.pc_model.specs.Given.{Given}
 use Rattle.pc_model.specs.Known.{commit_of}
 use Rattle.pc_model.specs.Lawful.{held_parts}
 use Rattle.pc_offset_client.specs.declared.fault.ClientFault.{ClientFault}
 use Rattle.pc_engine.specs.declared.fault.EngineFault.{EngineFault}
-use Rattle.pc_engine.specs.Engine.{EngineView}
+use Rattle.pc_engine.specs.Stand.{DoesAlone, Stand}
 use Rattle.pc_engine.specs.Effect.{Step, Does, IsFetched, IsStored, assign_refusal, assign_step, crash_step, lose_step, revoke_refusal, revoke_step}
-
--- where an engine stands: its history, and of its link what the broker stores, as far as that is
--- told, and how often it has failed
-pub record Stand : Type 0 where
-  pub history : List Event
-  pub store : Broker
-  pub faults : ℕ
-
-abbrev pub stand_of : {L T : Type 0} → (L → Broker) → (L → ℕ) → EngineView L T → Stand
-stand_of store faults e = record {
-  history = e.journal.events;
-  store = store e.link;
-  faults = faults e.link;
-}
 
 -- ---- one call
 
@@ -65,13 +50,6 @@ pub record Revokes (told : Bool) (given : Given) (p : ℕ) (before after : Stand
   pub later : before.faults ≤ after.faults
   pub unasked : (fault : EngineFault) → revoke_refusal given before.history p ≡ Some fault
       → after ≡ before
-
--- a call did this step, which asks nothing of the link
-pub record DoesAlone (step : Step (Unit {0})) (before after : Stand)
-    (answer : Result (Unit {0}) EngineFault) : Type 0 where
-  pub does : Does answer step before.history after.history
-  pub store : after.store ≡ before.store
-  pub faults : after.faults ≡ before.faults
 
 -- ---- one call after the other
 

@@ -5,7 +5,8 @@ ghost use Rattle.pc_model.specs.Given.{has_log};
 ghost use Rattle.pc_model.specs.Lawful.{held_parts};
 ghost use Rattle.pc_engine.specs.Effect.{StoresOnly};
 ghost use Rattle.pc_engine.specs.Engine.{Asks, given_of};
-ghost use Rattle.pc_rebalance.specs.Apply.{Applies, AssignsAll, Crashes, Revokes, stand_of};
+ghost use Rattle.pc_engine.specs.Stand.{stand_of};
+ghost use Rattle.pc_rebalance.specs.Apply.{Applies, AssignsAll, Crashes, Revokes};
 
 use pc_engine::{Engine, EngineFault};
 use pc_model::Act;

@@ -6,12 +6,14 @@ ghost use Rattle.pc_model.specs.Given.{has_log};
 ghost use Rattle.pc_model.specs.Pace.{is_paced};
 ghost use Rattle.pc_model.specs.Steps.{follows, is_step_due, may_begin, place_of};
 ghost use Rattle.pc_offset_client.specs.declared.fault.ClientFault.TheVariants.{LinkFailed};
+ghost use Rattle.pc_run_laws.specs.Run.{AnyMayCome};
 ghost use Rattle.pc_world.specs.World.{HasRisen};
 ghost use Rattle.pc_engine.specs.declared.fault.EngineFault.TheVariants.{Client as Failed};
 ghost use Rattle.pc_engine.specs.Effect.{StoresOnly};
 ghost use Rattle.pc_engine.specs.Engine.{Asks, given_of};
-ghost use Rattle.pc_rebalance.specs.Apply.{Applies, stand_of};
-ghost use Rattle.pc_rebalance.specs.Block.{AnyMayCome, next_place};
+ghost use Rattle.pc_engine.specs.Stand.{stand_of};
+ghost use Rattle.pc_rebalance.specs.Apply.{Applies};
+ghost use Rattle.pc_rebalance.specs.Block.{next_place};
 ghost use Rattle.pc_rebalance.specs.Refusal.{IsFromOutside, MayDo};
 
 use crate::calls::perform;

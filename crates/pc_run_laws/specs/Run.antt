@@ -8,7 +8,7 @@ use Rattle.pc_model.specs.Known.{unpolled_records}
 use Rattle.pc_model.specs.Lawful.{IsLegal}
 use Rattle.pc_model.specs.Run.{open_records}
 use Rattle.pc_model.specs.Steps.{follows}
-use Rattle.pc_model.specs.Pace.{is_paced}
+use Rattle.pc_model.specs.Pace.{goes_with, is_paced}
 
 -- a run by the steps: legal, its parts move by the steps, and it keeps to the pace
 pub record IsRun (given : Given) (steps : List Step) (h : List Event) : Type 0 where
@@ -20,3 +20,7 @@ pub record IsRun (given : Given) (steps : List Step) (h : List Event) : Type 0 w
 abbrev pub IsFirstUnfinished : Given → List Event → ℕ → Record → Type 0
 IsFirstUnfinished given h p r =
     slice_get (open_records given h p ++ unpolled_records given h p) 0 ≡ Some r
+
+-- the last event does not ask for a certain one right after it
+abbrev pub AnyMayCome : Given → List Event → Type 0
+AnyMayCome given h = (e : Event) → goes_with given h e ≡ true

@@ -1,4 +1,5 @@
-//! That memory is found, and which calls fail: by their numbers, by a name, by the room.
+//! That memory is found, which calls fail, by their numbers, by a name, by the room, and that clocks
+//! move.
 
 use crate::*;
 use std::test::Fail;
@@ -33,4 +34,21 @@ fn writes_take_what_fits(rt: HostRuntime) -> Result<(), Fail> {
     assert_eq!(rt; sink.write(b"ef"), Err(SinkFailed));
     assert_eq!(rt; sink.bytes(), b"abcd".as_slice());
     Ok(())
+}
+
+#[test]
+fn a_step_clock_moves_by_its_rests(rt: HostRuntime) {
+    let clock = StepClock::new();
+    assert_eq!(rt; clock.now(), 0);
+    clock.rest(5);
+    clock.rest(2);
+    assert_eq!(rt; clock.now(), 7);
+}
+
+#[test]
+fn the_real_clock_moves(rt: HostRuntime) {
+    let clock = RealClock::new(&rt);
+    let before = clock.now();
+    clock.rest(2);
+    assert!(rt; 0 < before && before < clock.now(), "after {before}");
 }

@@ -3,7 +3,8 @@ use Rattle.std.proofs.Common.{◌∙◌, Result, Ok, Err, ap, refl, subst, sym, 
 use Rattle.std.proofs.lemmas.Result.{err_from_is_err_and}
 use Rattle.pc_engine.specs.declared.fault.EngineFault.{EngineFault}
 use Rattle.pc_engine.specs.Engine.{given_of}
-use Rattle.pc_rebalance.specs.Apply.{AssignsAll, stand_of}
+use Rattle.pc_engine.specs.Stand.{stand_of}
+use Rattle.pc_rebalance.specs.Apply.{AssignsAll}
 use Rattle.pc_rebalance.proofs.CallLemmas.{all-next, all-none, all-stopped, asks-trans, assigns-of, assigns-over}
 use Rattle.pc_rebalance.proofs.calls.assign_all.Goals as goal
 

@@ -1,7 +1,8 @@
 -- The parts so far are assigned.
 use Rattle.std.proofs.Common.{◌≡◌, true, take, Ok}
 use Rattle.pc_engine.specs.Engine.{Asks, given_of}
-use Rattle.pc_rebalance.specs.Apply.{AssignsAll, stand_of}
+use Rattle.pc_engine.specs.Stand.{stand_of}
+use Rattle.pc_rebalance.specs.Apply.{AssignsAll}
 use Rattle.pc_rebalance.proofs.calls.assign_all.Given as goal
 
 abbrev pub invariant-loop-part : goal.invariant-loop-part

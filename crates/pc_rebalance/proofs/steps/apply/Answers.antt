@@ -1,6 +1,6 @@
 -- The block keeps to the steps and to the pace.
 use Rattle.pc_engine.specs.Engine.{given_of}
-use Rattle.pc_rebalance.specs.Apply.{stand_of}
+use Rattle.pc_engine.specs.Stand.{stand_of}
 use Rattle.pc_rebalance.proofs.BlockLemmas.{keeps-applied}
 use Rattle.pc_rebalance.proofs.OutsideLemmas.{applied-outside}
 use Rattle.pc_rebalance.proofs.RefusalLemmas.{applied-cause}
