@@ -31,6 +31,7 @@ pub struct Committed {
 }
 
 /// The core over one link, which has one function run on the records.
+#[derive(Drop)]
 pub struct Engine<'a, L: Link, T: Task = RuleTask> {
     pub(crate) alloc: Global,
     pub(crate) task: &'a T,
@@ -348,8 +349,9 @@ impl<'a, L: Link, T: Task> Engine<'a, L, T> {
 
     /// Whether `settle` would answer neither `Closed` nor `Stranger`.
     pub fn expects(&self, done: &Finished<'a, T>) -> bool
-        ensures { IsTrue result ↔ ((has_ended self.now.journal.events ≡ false)
+        ensures expects { IsTrue result ↔ ((has_ended self.now.journal.events ≡ false)
             × Expects T.outcome T.same self.now done.now) }
+        ensures outcomes { IsTrue result → T.outcome done.now.task.now ≡ T.outcome self.now.task }
     {
         !self.state.ledger.ended && done.task.is_same(self.task) && self.state.expects(done)
     }
