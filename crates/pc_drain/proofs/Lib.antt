@@ -1,0 +1,10 @@
+pub mod ActionLemmas
+pub mod RefusalLemmas
+pub mod ResultLemmas
+pub mod FailingLemmas
+pub mod RunLemmas
+pub mod StepLemmas
+pub mod TurnLemmas
+pub mod CauseLemmas
+pub mod CountLemmas
+pub mod OutsideLemmas

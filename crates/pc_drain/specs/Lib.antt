@@ -1,0 +1,4 @@
+pub mod Action
+pub mod Causes
+pub mod Counts
+pub mod Turn

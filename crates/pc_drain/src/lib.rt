@@ -1,0 +1,14 @@
+//! What a run does next: a control turn does the first of its actions that applies.
+#![tactic(auto)]
+
+mod act;
+mod action;
+mod control;
+mod settling;
+mod turn;
+
+pub use control::control_turn;
+pub use turn::Turn;
+
+#[cfg(test)]
+mod tests;
