@@ -12,7 +12,7 @@ use pc_world::Link;
 
 /// An action of a control turn.
 #[derive(Clone, Copy, Debug, PartialEq, Eq)]
-pub(crate) enum Action {
+pub enum Action {
     /// The clock moves on, to the time of a record that waits.
     MoveClock,
     /// The part's commit is due.

@@ -7,6 +7,7 @@ mod control;
 mod settling;
 mod turn;
 
+pub use action::Action;
 pub use control::control_turn;
 pub use turn::Turn;
 
