@@ -1,5 +1,9 @@
 pub mod Fields
+pub mod HeldParts
 pub mod Line
 pub mod LineFault
+pub mod MapBits
+pub mod Passed
 pub mod Reading
+pub mod Summary
 pub mod Word

@@ -1,11 +1,15 @@
 //! The laws of these texts, as functions that do nothing: each event has one line and each history
-//! one text, which is read as it.
+//! one text, which is read as it, and a summary goes by little of a history.
 
-ghost use Rattle.std.specs.Prelude.{◌≡◌, ℕ, List, Some, Ok, Err};
+ghost use Rattle.std.specs.Prelude.{◌≡◌, ℕ, true, List, Option, Some, Ok, Err};
 ghost use Rattle.pc_lines.specs.Pieces.{lines_of};
 ghost use Rattle.pc_model.specs.declared.event.Event.{Event};
+ghost use Rattle.pc_model.specs.declared.setup.Setup.{Setup};
+ghost use Rattle.pc_model.specs.Epochs.{is_held};
+ghost use Rattle.pc_model.specs.Record.{Record};
 ghost use Rattle.pc_print.specs.Line.{AreEvents, IsEnded, IsEvent, IsFirstBad, bare_line_of, text_of};
 ghost use Rattle.pc_print.specs.Reading.{event_of, history_of};
+ghost use Rattle.pc_print.specs.Summary.{first_assigned, held_among, summary_of};
 
 /// The line of an event is read as the event, and no other line is.
 pub fn one_line_for_each_event()
@@ -26,4 +30,13 @@ pub fn one_text_for_each_history()
 /// A text without a history has a first line that is no event's, and its number is named.
 pub fn one_fault_for_each_other_text()
     ensures { (text : List ℕ) (n : ℕ) → history_of text ≡ Err n → IsFirstBad (lines_of text) n }
+{}
+
+/// The summary goes by the parts that are held and the first assignment of each, and by nothing
+/// else in a history.
+pub fn one_summary_for_each_start()
+    ensures { (setup : Setup) (logs : List (Option (List Record))) (h k : List Event)
+        → held_among logs h ≡ held_among logs k
+        → ((p : ℕ) → is_held h p ≡ true → first_assigned h p ≡ first_assigned k p)
+        → summary_of setup logs h ≡ summary_of setup logs k }
 {}
