@@ -1,26 +1,14 @@
 -- The line of a remark.
 use Rattle.std.specs.Prelude.{ℕ, List, [], ◌∷◌, ◌++◌, codes}
 use Rattle.std.specs.Fmt.{decimal}
-use Rattle.pc_model.specs.declared.map_fault.MapFault.{MapFault}
-use Rattle.pc_model.specs.declared.map_fault.MapFault.TheVariants as map
 use Rattle.pc_print.specs.Line.{named, spaced}
+use Rattle.pc_print.specs.MapFault.{map_words}
 use Rattle.pc_engine.specs.declared.fault.EngineFault.{EngineFault}
 use Rattle.pc_engine.specs.declared.fault.EngineFault.TheVariants as engine
 use Rattle.pc_inputs.specs.Status.{client_words}
 use Rattle.pc_play.specs.declared.remark.Notice.{Notice}
 use Rattle.pc_play.specs.declared.remark.Notice.TheVariants.{Refused, NoJob, AtEnd, OldTime, Stranger}
 use Rattle.pc_play.specs.declared.remark.Remark.{Remark}
-
--- the words of what is wrong with a map
-abbrev pub map_words : MapFault → List (List ℕ)
-map_words map.NotBase64 = codes "not-base64" ∷ []
-map_words (map.Compressed letter) = named (codes "compressed") letter
-map_words (map.UnknownLetter letter) = named (codes "unknown-letter") letter
-map_words map.ShortNumber = codes "short-number" ∷ []
-map_words map.NegativeNumber = codes "negative-number" ∷ []
-map_words map.TooManyBytes = codes "too-many-bytes" ∷ []
-map_words map.PastLastOffset = codes "past-last-offset" ∷ []
-map_words map.NoMemory = codes "no-memory" ∷ []
 
 -- the words of a refusal
 abbrev pub refusal_words : EngineFault → List (List ℕ)

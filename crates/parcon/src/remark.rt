@@ -2,14 +2,15 @@
 
 ghost use Rattle.std.specs.Prelude.{◌≡◌, ◌++◌, ◌∷◌, OnOk, OnErr, codes};
 ghost use Rattle.pc_inputs.specs.Status.{client_words};
-ghost use Rattle.parcon.specs.Remark.{map_words, refusal_words, remark_line, words_at};
+ghost use Rattle.pc_print.specs.MapFault.{map_words};
+ghost use Rattle.parcon.specs.Remark.{refusal_words, remark_line, words_at};
 
 use pc_engine::EngineFault;
 use pc_model::MapFault;
 use pc_offset_client::ClientFault;
 use pc_play::{Notice, Remark};
 use pc_print::Word::{Label, Name, Number, Signed};
-use pc_print::put_line;
+use pc_print::{put_line, put_map_line};
 use std::alloc::AllocError;
 
 /// Appends the line of a remark, with its line feed. When out of memory `out` stays as
@@ -99,27 +100,5 @@ fn put_map(out: &mut Vec<u8>, n: u64, fault: MapFault) -> Result<(), AllocError>
         ≡ out.old.items ++ words_at n (codes "bad-map" ∷ map_words fault)) }
     ensures err { OnErr result (out.new.items ≡ out.old.items) }
 {
-    let (kind, letter): (&[u8], Option<u8>) = match fault {
-        MapFault::NotBase64 => (b"not-base64", None),
-        MapFault::Compressed(letter) => (b"compressed", Some(letter)),
-        MapFault::UnknownLetter(letter) => (b"unknown-letter", Some(letter)),
-        MapFault::ShortNumber => (b"short-number", None),
-        MapFault::NegativeNumber => (b"negative-number", None),
-        MapFault::TooManyBytes => (b"too-many-bytes", None),
-        MapFault::PastLastOffset => (b"past-last-offset", None),
-        MapFault::NoMemory => (b"no-memory", None),
-    };
-    match letter {
-        Some(letter) => put_line(
-            out,
-            b"line",
-            &[
-                Label(n),
-                Name(b"bad-map"),
-                Name(kind),
-                Number(u64::from(letter)),
-            ],
-        ),
-        None => put_line(out, b"line", &[Label(n), Name(b"bad-map"), Name(kind)]),
-    }
+    put_map_line(out, b"line", Label(n), Name(b"bad-map"), fault)
 }

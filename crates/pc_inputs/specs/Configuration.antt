@@ -1,6 +1,5 @@
--- The settings that the text of a configuration gives.
+-- What the text of a configuration gives.
 use Rattle.std.specs.Prelude.{ℕ, List, Result, Ok, Err}
-use Rattle.pc_model.specs.declared.setup.Settings.{Settings}
 use Rattle.pc_config.specs.declared.fault.ConfigFault.{ConfigFault}
 use Rattle.pc_config.specs.declared.fault.ConfigFault.TheVariants.{NoMemory}
 use Rattle.pc_config.specs.Config.{Configured, config_of}
@@ -12,10 +11,10 @@ abbrev pub config_status : ConfigFault → Status
 config_status NoMemory = status.NoMemory
 config_status fault = status.BadConfig fault
 
-abbrev pub settings_or_status : Result Configured ConfigFault → Result Settings Status
-settings_or_status (Ok configured) = Ok configured.settings
-settings_or_status (Err fault) = Err (config_status fault)
+abbrev pub configured_or_status : Result Configured ConfigFault → Result Configured Status
+configured_or_status (Ok configured) = Ok configured
+configured_or_status (Err fault) = Err (config_status fault)
 
--- the settings that a text gives, or the status of its first fault
-abbrev pub settings_in : List ℕ → Result Settings Status
-settings_in text = settings_or_status (config_of text)
+-- what a text configures, or the status of its first fault
+abbrev pub configured_in : List ℕ → Result Configured Status
+configured_in text = configured_or_status (config_of text)

@@ -1,4 +1,4 @@
--- What is played: the logs of a play's files, and the lines of its script.
+-- What a command carries out: the logs of its files, and the lines or the steps of its script.
 use Rattle.std.specs.Prelude.{ℕ, ◌≡◌, ◌<◌, ◌≤◌, ◌+◌, ◌++◌, length, Bool, nat_lt, List, [], ◌∷◌, map, unwrap_or, Option, Some, None, Result, Ok, Err, if◌then◌else◌}
 use Rattle.pc_model.specs.declared.limits.TheConstants.{MAX_RECORDS, MAX_SCRIPT_LINES}
 use Rattle.std.specs.List.{list_all}
@@ -7,7 +7,10 @@ use Rattle.pc_model.specs.Given.{rises_from}
 use Rattle.pc_script.specs.declared.play.PlayLine.{PlayLine}
 use Rattle.pc_script.specs.declared.fault.ScriptReadFault.{ScriptReadFault}
 use Rattle.pc_script.specs.declared.fault.ScriptReadFault.TheVariants.{Bad, TooManyLines, NoMemory}
+use Rattle.pc_model.specs.declared.step.Step.{Step}
+use Rattle.pc_config.specs.Config.{Configured}
 use Rattle.pc_script.specs.PlayScript.{script_of}
+use Rattle.pc_script.specs.Steps.{steps_of}
 use Rattle.pc_batch.specs.Batch.{Placed}
 use Rattle.pc_cursor.specs.declared.fault.LogFault.{LogFault}
 use Rattle.pc_cursor.specs.Log.{all_batches, all_records, contents_of, records_of}
@@ -16,8 +19,10 @@ use Rattle.pc_inputs.specs.declared.status.Status.{Status}
 use Rattle.pc_inputs.specs.declared.status.Status.TheVariants as status
 use Rattle.pc_inputs.specs.declared.status.LimitKind.TheVariants.{Records, ScriptLines}
 use Rattle.pc_model.specs.declared.setup.Settings.{Settings}
+use Rattle.pc_inputs.specs.declared.plan.Ground.{Ground}
 use Rattle.pc_inputs.specs.declared.plan.Plan.{Plan}
-use Rattle.pc_inputs.specs.Configuration.{settings_in}
+use Rattle.pc_inputs.specs.declared.plan.RunPlan.{RunPlan}
+use Rattle.pc_inputs.specs.Configuration.{configured_in}
 use Rattle.pc_inputs.specs.Reading.{◌>>=◌, ReadAnswer, FileRead, FileText, FileTexts, Reads, files_answered}
 use Rattle.pc_inputs.specs.Reading.ReadAnswer.{Bytes, Failed, TooLong}
 
@@ -86,23 +91,41 @@ abbrev pub lines_or_status : Result (List PlayLine) ScriptReadFault → Result (
 lines_or_status (Ok lines) = Ok lines
 lines_or_status (Err fault) = Err (script_status fault)
 
--- ---- all of them
+-- the steps of a script, unless it does not read
+abbrev pub steps_or_status : Result (List Step) ScriptReadFault → Result (List Step) Status
+steps_or_status (Ok steps) = Ok steps
+steps_or_status (Err fault) = Err (script_status fault)
+
+-- ---- what a command stands on
+
+-- what the configuration gives, or the status that ends a command before its script: of the
+-- configuration, of the logs in order, and of the number of their records, the first that applies
+abbrev pub ground_behind : FileTexts → Result Configured Status
+ground_behind texts =
+    do
+      configured ← configured_in texts.config
+      logs ← checked_logs texts.logs
+      few ← few_records (logs_with logs)
+      Ok configured
+
+-- what the code keeps of it
+abbrev pub ground : Ground → Configured
+ground found = record { settings = found.setup.settings; workers = found.workers }
+
+-- ---- a play
 
 -- with which settings which lines are played
 pub record Planned : Type 0 where
   pub settings : Settings
   pub lines : List PlayLine
 
--- the play of these texts, or the status that ends it before it begins: of the configuration, of the
--- logs in order, of the number of their records, and of the script, the first that applies
+-- the play of these texts, or the status that ends it before it begins
 abbrev pub plan_behind : FileTexts → Result Planned Status
 plan_behind texts =
     do
-      settings ← settings_in texts.config
-      logs ← checked_logs texts.logs
-      few ← few_records (logs_with logs)
+      ground ← ground_behind texts
       lines ← lines_or_status (script_of texts.script)
-      Ok (record { settings = settings; lines = lines })
+      Ok (record { settings = ground.settings; lines = lines })
 
 -- the play that these words and these reads ask for, or the status that ends it before it begins
 abbrev pub plan_to_play : List (List ℕ) → Reads → Result Planned Status
@@ -114,6 +137,28 @@ plan_to_play words reads =
 -- what the code keeps of it
 abbrev pub planned : Plan → Planned
 planned plan = record { settings = plan.setup.settings; lines = plan.script }
+
+-- ---- a run
+
+-- with which settings how many workers go through which steps
+pub record PlannedRun : Type 0 where
+  pub settings : Settings
+  pub workers : ℕ
+  pub steps : List Step
+
+-- the run of these texts, or the status that ends it before it begins; its steps are over as many
+-- parts as there are logs
+abbrev pub run_behind : FileTexts → Result PlannedRun Status
+run_behind texts =
+    do
+      ground ← ground_behind texts
+      steps ← steps_or_status (steps_of texts.script (length texts.logs))
+      Ok (record { settings = ground.settings; workers = ground.workers; steps = steps })
+
+-- what the code keeps of it
+abbrev pub planned_run : RunPlan → PlannedRun
+planned_run plan =
+    record { settings = plan.setup.settings; workers = plan.workers; steps = plan.steps }
 
 -- whether the offsets of each log rise
 abbrev pub all_rise : List (Option (List Record)) → Bool

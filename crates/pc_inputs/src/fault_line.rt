@@ -2,14 +2,14 @@
 
 ghost use Rattle.std.specs.Prelude.{◌≡◌, ◌++◌, ◌∷◌, OnOk, OnErr, codes};
 ghost use Rattle.pc_inputs.specs.Status.{client_words, fault_line, fault_words_line, limit_name};
-ghost use Rattle.pc_inputs.specs.declared.status.Status.TheVariants.{BadScript};
+ghost use Rattle.pc_inputs.specs.declared.status.Status.TheVariants.{BadScript, Undrained};
 
 use crate::config_fault::put_config_fault;
 use crate::log_fault::{LogPlace, put_log_fault};
 use crate::status::{LimitKind, Status};
 use pc_offset_client::ClientFault;
 use pc_print::Word::{Marked, Name, Number, Signed};
-use pc_print::put_line;
+use pc_print::{put_line, put_map_line};
 use pc_script::ScriptKind;
 use std::alloc::{AllocError, Global};
 
@@ -41,11 +41,23 @@ pub fn put_fault(alloc: Global, out: &mut Vec<u8>, status: &Status) -> Result<()
             )
         }
         Status::BadScript { line, kind } => put_bad_line(alloc, out, *line, *kind),
+        Status::Undrained {
+            part,
+            offset,
+            failures,
+        } => put_undrained(out, *part, *offset, *failures),
         Status::LinkFault(fault) => put_link_fault(out, *fault),
         Status::Limit { which, number } => put_line(
             out,
             b"fault",
             &[Name(b"limit"), Name(limit_name(*which)), Number(*number)],
+        ),
+        Status::BadMap { part, fault } => put_map_line(
+            out,
+            b"fault",
+            Name(b"map"),
+            Number(u64::from(*part)),
+            *fault,
         ),
     }
 }
@@ -59,6 +71,7 @@ fn limit_name(which: LimitKind) -> &'static [u8]
         LimitKind::LogBytes => b"log-bytes",
         LimitKind::Records => b"records",
         LimitKind::ScriptLines => b"script-lines",
+        LimitKind::Events => b"events",
     }
 }
 
@@ -78,7 +91,28 @@ fn put_bad_line(
     put_line(out, b"fault", &words)
 }
 
-/// Appends the fault line of a starting commit that was not stored.
+/// Appends the fault line of a record that failed as often as it may.
+#[tactic(auto, unfolding(crate::specs::Status::fault_line))]
+fn put_undrained(
+    out: &mut Vec<u8>,
+    part: u32,
+    offset: u64,
+    failures: u32,
+) -> Result<(), AllocError>
+    ensures ok { OnOk result (out.new.items
+        ≡ out.old.items ++ fault_line (Undrained part offset failures)) }
+    ensures err { OnErr result (out.new.items ≡ out.old.items) }
+{
+    let words = [
+        Name(b"undrained"),
+        Number(u64::from(part)),
+        Number(offset),
+        Number(u64::from(failures)),
+    ];
+    put_line(out, b"fault", &words)
+}
+
+/// Appends the fault line of what the link's client did not do.
 fn put_link_fault(out: &mut Vec<u8>, fault: ClientFault) -> Result<(), AllocError>
     ensures ok { OnOk result (out.new.items
         ≡ out.old.items ++ fault_words_line (codes "link" ∷ client_words fault)) }

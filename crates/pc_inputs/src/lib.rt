@@ -15,6 +15,6 @@ mod status;
 mod words;
 
 pub use fault_line::put_fault;
-pub use plan::{Plan, plan_of};
+pub use plan::{Plan, RunPlan, plan_of, run_plan_of};
 pub use reading::{LogText, Texts, read_files};
 pub use status::{LimitKind, NO_MEMORY, Status};

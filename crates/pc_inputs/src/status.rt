@@ -4,8 +4,8 @@ ghost use Rattle.std.specs.Prelude.{◌≡◌};
 
 use pc_config::ConfigFault;
 use pc_cursor::LogFaultKind;
-use pc_model::NameText;
 use pc_model::limits::MAX_SCRIPT_LINES;
+use pc_model::{MapFault, NameText};
 use pc_offset_client::ClientFault;
 use pc_script::{ScriptKind, ScriptReadFault};
 use std::alloc::{AllocError, AllocFailed};
@@ -21,6 +21,8 @@ pub enum LimitKind {
     Records,
     /// The lines of a script.
     ScriptLines,
+    /// The events of a run.
+    Events,
 }
 
 /// How a call of the program ends. All but `Whole`, `SinkFault` and `NoMemory` have a fault line,
@@ -48,14 +50,25 @@ pub enum Status {
         line: u64,
         kind: ScriptKind,
     },
+    /// The steps of a run are used up, and this record failed as often as it may.
+    Undrained {
+        part: u32,
+        offset: u64,
+        failures: u32,
+    },
     /// The output could not be written.
     SinkFault,
-    /// A starting commit got this fault, and nothing was played.
+    /// The link's client got this fault.
     LinkFault(ClientFault),
     /// There is more of something than may be: more than this number.
     Limit {
         which: LimitKind,
         number: u64,
+    },
+    /// The map that is stored for the part does not read, and the setup refuses it.
+    BadMap {
+        part: u32,
+        fault: MapFault,
     },
     /// Memory ran out.
     NoMemory,
@@ -78,9 +91,11 @@ impl Status {
             Status::BadConfig(_) => 3,
             Status::BadLog { .. } => 4,
             Status::BadScript { .. } => 5,
+            Status::Undrained { .. } => 6,
             Status::SinkFault => 7,
             Status::LinkFault(_) => 8,
             Status::Limit { .. } => 9,
+            Status::BadMap { .. } => 10,
             Status::NoMemory => NO_MEMORY,
         }
     }

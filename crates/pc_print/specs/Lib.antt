@@ -3,6 +3,7 @@ pub mod HeldParts
 pub mod Line
 pub mod LineFault
 pub mod MapBits
+pub mod MapFault
 pub mod Passed
 pub mod Reading
 pub mod Summary

@@ -5,7 +5,7 @@ use Rattle.pc_inputs.specs.Plan.{logs_of, logs_with}
 use Rattle.pc_inputs.specs.Reading.{text_of}
 use Rattle.pc_inputs.proofs.ReadingLemmas.{was-read}
 use Rattle.pc_inputs.proofs.PlanLemmas.{few-are, logs-checked}
-use Rattle.pc_inputs.proofs.plan.plan_of.Goals as goal
+use Rattle.pc_inputs.proofs.plan.ground_of.Goals as goal
 
 pub returns-clause-logs : goal.returns-clause-logs
 returns-clause-logs c =
