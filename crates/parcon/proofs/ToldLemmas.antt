@@ -27,8 +27,8 @@ use Rattle.pc_engine.specs.declared.fault.EngineFault.{EngineFault}
 use Rattle.pc_engine.specs.Effect.{assign_after, assign_refusal, commit_after, commit_refusal, revoke_after, revoke_refusal}
 use Rattle.pc_inputs.specs.declared.status.Status.{Status}
 use Rattle.pc_inputs.specs.declared.status.Status.TheVariants as status
-use Rattle.pc_inputs.specs.Command.{Command, PlayFiles, command_of, files_in, files_of}
-use Rattle.pc_inputs.specs.Command.Command.{Play as PlayOf}
+use Rattle.pc_inputs.specs.Command.{Command, CommandFiles, command_of, files_in, files_of}
+use Rattle.pc_inputs.specs.Command.Command.{Bulk as BulkOf, Play as PlayOf, Run as RunOf}
 use Rattle.pc_inputs.specs.Reading.{◌>>=◌, AreAnswers, FileRead, IsAnswer, IsConfigAnswer, command_answered, ReadAnswer, Reads}
 use Rattle.pc_inputs.specs.Reading.ReadAnswer.{Bytes, Failed, TooLong}
 use Rattle.pc_inputs.specs.Plan.{Planned, logs_read, plan_behind, plan_to_play}
@@ -309,11 +309,13 @@ reads-told : (words : List (List ℕ)) (contents : List ℕ → Option (List ℕ
 reads-told words contents f f' reads are told calm =
     by (command_of words) refl told
   where
-    by : (o : Option Command) → command_of words ≡ o → AreTold o contents
+    -- words that name no file
+    unnamed : (o : Option Command) → command_of words ≡ o → (files_in o).logs ≡ []
+        → plan_by o reads ≡ plan_by o (told_reads words contents)
         → AreToldReads words contents reads
-    by None is tells =
+    unnamed o is no_files same =
         let no_logs : (files_of words).logs ≡ [] =
-        ap (λ (o : Option Command). (files_in o).logs) is in
+        ap (λ (o : Option Command). (files_in o).logs) is ∙ no_files in
         let none = logs-told contents f f' [] reads.logs (are.logs.named ∙ no_logs) are.logs.each tt
         calm in
         record {
@@ -321,18 +323,25 @@ reads-told words contents f f' reads are told calm =
             name = name;
             answer = told_answer (contents name);
           })) no_logs));
-          plan = ap (λ (o : Option Command). plan_by o reads) is
+          plan = ap (λ (o : Option Command). plan_by o reads) is ∙ same
               ∙ sym (ap (λ (o : Option Command). plan_by o (told_reads words contents)) is);
         }
+
+    by : (o : Option Command) → command_of words ≡ o → AreTold o contents
+        → AreToldReads words contents reads
+    by None is tells = unnamed None is refl refl
+    by (Some (RunOf files summary)) is tells = unnamed (Some (RunOf files summary)) is refl refl
+    by (Some (BulkOf seed records workers)) is tells =
+        unnamed (Some (BulkOf seed records workers)) is refl refl
     by (Some (PlayOf files)) is tells =
         let named : files_of words ≡ files = ap files_in is in
         let config = config-told contents f f' (files_of words).config reads.config are.config
-        (subst (λ (x : PlayFiles). IsConfigTold x.config contents) (sym named) tells.0) calm in
+        (subst (λ (x : CommandFiles). IsConfigTold x.config contents) (sym named) tells.0) calm in
         let all : AllByRecursion (λ name. IsTold (contents name)) (files_of words).logs =
-        subst (λ (x : PlayFiles). AllByRecursion (λ name. IsTold (contents name)) x.logs)
+        subst (λ (x : CommandFiles). AllByRecursion (λ name. IsTold (contents name)) x.logs)
         (sym named) tells.1 in
         let last : IsTold (contents (files_of words).script) =
-        subst (λ (x : PlayFiles). IsTold (contents x.script)) (sym named) tells.2 in
+        subst (λ (x : CommandFiles). IsTold (contents x.script)) (sym named) tells.2 in
         let logs = logs-told contents f f' (files_of words).logs reads.logs are.logs.named
         are.logs.each all calm in
         let script = answer-told (contents (files_of words).script) (f (files_of words).script)

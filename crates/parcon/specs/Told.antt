@@ -23,7 +23,7 @@ use Rattle.pc_script.specs.declared.play.PlayAct.TheVariants.{Assign, Commit, Re
 use Rattle.pc_script.specs.declared.play.PlayLine.{PlayLine}
 use Rattle.pc_inputs.specs.declared.status.Status.{Status}
 use Rattle.pc_inputs.specs.Command.{Command, files_of}
-use Rattle.pc_inputs.specs.Command.Command.{Play as PlayOf}
+use Rattle.pc_inputs.specs.Command.Command.{Bulk as BulkOf, Play as PlayOf, Run as RunOf}
 use Rattle.pc_inputs.specs.Reading.{ReadAnswer, Reads}
 use Rattle.pc_inputs.specs.Reading.ReadAnswer.{Bytes, TooLong}
 use Rattle.pc_inputs.specs.Plan.{Planned, logs_read, plan_to_play}
@@ -63,11 +63,13 @@ abbrev pub IsConfigTold : Option (List ℕ) → (List ℕ → Option (List ℕ))
 IsConfigTold None contents = Unit {0}
 IsConfigTold (Some name) contents = IsTold (contents name)
 
--- the files of a command tell what they hold
+-- the files of a play tell what they hold
 abbrev pub AreTold : Option Command → (List ℕ → Option (List ℕ)) → Type 0
 AreTold None contents = Unit {0}
 AreTold (Some (PlayOf files)) contents = IsConfigTold files.config contents
     × AllByRecursion (λ name. IsTold (contents name)) files.logs × IsTold (contents files.script)
+AreTold (Some (RunOf files summary)) contents = Unit {0}
+AreTold (Some (BulkOf seed records workers)) contents = Unit {0}
 
 -- ---- the link
 

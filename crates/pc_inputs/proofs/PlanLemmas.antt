@@ -14,7 +14,7 @@ use Rattle.pc_cursor.proofs.Standing.{checked-rise}
 use Rattle.pc_inputs.specs.declared.status.Status.{Status}
 use Rattle.pc_inputs.specs.Reading.{◌>>=◌, ReadAnswer, FileRead, FileText, FileTexts, Reads, answered, command_answered, config_answered, files_answered, log_answered, logs_answered, within}
 use Rattle.pc_inputs.specs.Command.{Command, command_of}
-use Rattle.pc_inputs.specs.Command.Command.{Play}
+use Rattle.pc_inputs.specs.Command.Command.{Bulk, Play, Run}
 use Rattle.pc_inputs.specs.Reading.ReadAnswer.{Bytes, Failed, TooLong}
 use Rattle.pc_broker_log.specs.declared.fault.AddFault.{AddFault}
 use Rattle.pc_broker_log.specs.declared.fault.AddFault.TheVariants.{NoMemory, TooManyRecords}
@@ -127,6 +127,8 @@ files-logs words reads texts is =
   where
     by : (command : Command) → command_answered command reads ≡ Ok texts
         → logs_answered 0 reads.logs ≡ Ok texts.logs
+    by (Run files summary) is = absurd (err-not-ok Usage texts is)
+    by (Bulk seed records workers) is = absurd (err-not-ok Usage texts is)
     by (Play files) is =
         let config = went (config_answered files.config reads.config) (λ config.
         logs_answered 0 reads.logs >>= λ logs. answered files.script reads.script

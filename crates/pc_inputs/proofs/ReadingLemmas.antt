@@ -6,12 +6,11 @@ use Rattle.std.proofs.lemmas.Bool.{cases_lt, ltb-true, ltb-false}
 use Rattle.std.proofs.lemmas.List.{append-nil, map-append}
 use Rattle.pc_world.specs.World.{HasRisen, AppendsFile}
 use Rattle.std.specs.Result.{result_map_both}
-use Rattle.pc_inputs.specs.declared.reading.Texts.{Texts}
 use Rattle.pc_inputs.specs.declared.status.Status.{Status}
 use Rattle.pc_inputs.specs.declared.status.Status.TheVariants.{NoMemory, Usage}
-use Rattle.pc_inputs.specs.Command.{Command, PlayFiles, command_of, files_in, files_of}
-use Rattle.pc_inputs.specs.Command.Command.{Play}
-use Rattle.pc_inputs.specs.Reading.{◌>>=◌, ReadAnswer, IsAnswer, FileRead, Reads, AreLogAnswers, AreAnswers, FileText, FileTexts, IsConfigAnswer, IsFromConfig, IsFromFile, IsFromFiles, IsFromLog, IsFromLogs, IsFromPlay, answered, command_answered, play_answered, log_answered, logs_answered, texts_of, within}
+use Rattle.pc_inputs.specs.Command.{Command, CommandFiles, command_of, files_in, run_files_in}
+use Rattle.pc_inputs.specs.Command.Command.{Play, Run}
+use Rattle.pc_inputs.specs.Reading.{◌>>=◌, ReadAnswer, IsAnswer, FileRead, Reads, AreLogAnswers, AreAnswers, FileText, FileTexts, IsConfigAnswer, IsFromConfig, IsFromFile, IsFromFiles, IsFromLog, IsFromLogs, IsFromCommand, IsFromRun, IsFromRunFiles, IsFromWords, RunFileTexts, answered, command_answered, run_answered, bytes_answered, log_answered, logs_answered, within}
 use Rattle.pc_inputs.proofs.ListLemmas.{map-around, map-next}
 use Rattle.pc_inputs.specs.Reading.ReadAnswer.{Bytes, Failed, TooLong}
 
@@ -344,7 +343,7 @@ config-later (Some name) told a b c x le more is =
     answer-later (told name) (a name) (b name) (c name) x (le name) (more name) is
 
 -- some answers may come of any files
-pub any-answers : (files : PlayFiles) (told : List ℕ → Option (List ℕ)) (f f' : List ℕ → ℕ)
+pub any-answers : (files : CommandFiles) (told : List ℕ → Option (List ℕ)) (f f' : List ℕ → ℕ)
     → (reads : Reads) × AreAnswers files told f f' reads
 any-answers files told f f' = (
   record {
@@ -362,22 +361,36 @@ any-answers files told f f' = (
 -- ---- the configuration, the logs, and then the script
 
 -- words that are no command name no file
-pub no-command : (words : List (List ℕ)) (told : List ℕ → Option (List ℕ)) (f f' : List ℕ → ℕ)
-    → command_of words ≡ None → IsFromFiles words told f f' (Err Usage)
-no-command words told f f' none =
-    let any = any-answers (files_of words) told f f' in
+pub no-command : {X : Type 0} (named : Option Command → CommandFiles) (asked : Command → Reads → Result X Status) (words : List (List ℕ))
+    (told : List ℕ → Option (List ℕ)) (f f' : List ℕ → ℕ)
+    → command_of words ≡ None → IsFromWords named asked words told f f' (Err Usage)
+no-command named asked words told f f' none =
+    let any = any-answers (named (command_of words)) told f f' in
     record {
       reads = any.0;
       answers = any.1;
-      texts = ap (λ (o : Option Command). ok_or o Usage
-          >>= λ command. command_answered command any.0) none;
+      texts = ap (λ (o : Option Command). ok_or o Usage >>= λ command. asked command any.0) none;
+    }
+
+-- nor do those of another command
+pub other-command : {X : Type 0} (named : Option Command → CommandFiles) (asked : Command → Reads → Result X Status)
+    (words : List (List ℕ)) (told : List ℕ → Option (List ℕ)) (f f' : List ℕ → ℕ)
+    (command : Command) → ((reads : Reads) → asked command reads ≡ Err Usage)
+    → command_of words ≡ Some command → IsFromWords named asked words told f f' (Err Usage)
+other-command named asked words told f f' command other is =
+    let any = any-answers (named (command_of words)) told f f' in
+    record {
+      reads = any.0;
+      answers = any.1;
+      texts = ap (λ (o : Option Command). ok_or o Usage >>= λ command. asked command any.0) is
+          ∙ other any.0;
     }
 
 -- what the words make, as the call answers it
-pub command-ok : (o : Option Command) (files : PlayFiles)
-    → ◌≡◌ {A = Result Command Status} (Ok (Play files)) (ok_or o Usage) → o ≡ Some (Play files)
-command-ok None files is = cc
-command-ok (Some command) files is = cc
+pub command-ok : (o : Option Command) (command : Command)
+    → ◌≡◌ {A = Result Command Status} (Ok command) (ok_or o Usage) → o ≡ Some command
+command-ok None command is = cc
+command-ok (Some made) command is = cc
 
 pub command-err : (o : Option Command) (s : Status)
     → ◌≡◌ {A = Result Command Status} (Err s) (ok_or o Usage) → (o ≡ None) × (s ≡ Usage)
@@ -415,12 +428,12 @@ logs-behind names told told' a b c got le keeps logs = record {
 }
 
 -- what comes of the reads of a play's files, by what came of the first of them
-abbrev behind_config : PlayFiles → Reads → Result (List ℕ) Status → Result FileTexts Status
+abbrev behind_config : CommandFiles → Reads → Result (List ℕ) Status → Result FileTexts Status
 behind_config files reads config = config >>= λ c. logs_answered 0 reads.logs
     >>= λ l. answered files.script reads.script
     >>= λ s. Ok (record { config = c; logs = l; script = s })
 
-abbrev behind_logs : PlayFiles → Reads → List ℕ → Result (List FileText) Status
+abbrev behind_logs : CommandFiles → Reads → List ℕ → Result (List FileText) Status
     → Result FileTexts Status
 behind_logs files reads config logs = logs >>= λ l. answered files.script reads.script
     >>= λ s. Ok (record { config = config; logs = l; script = s })
@@ -428,28 +441,66 @@ behind_logs files reads config logs = logs >>= λ l. answered files.script reads
 later-later : (a b c : List ℕ → ℕ) → IsLater a b → IsLater b c → IsLater a c
 later-later a b c le more n = le-trans (a n) (b n) (c n) (le n) (more n)
 
--- the reads of the files of a play that the words make
-pub play-read : (words : List (List ℕ)) (told : List ℕ → Option (List ℕ)) (f f' : List ℕ → ℕ)
-    (files : PlayFiles) (got : Result FileTexts Status) → command_of words ≡ Some (Play files)
-    → IsFromPlay files told f f' got → IsFromFiles words told f f' got
-play-read words told f f' files got named from = record {
-  reads = from.reads;
-  answers = subst (λ (o : Option Command). AreAnswers (files_in o) told f f' from.reads) (sym named)
-      from.answers;
-  texts = ap (λ (o : Option Command). ok_or o Usage
-      >>= λ command. command_answered command from.reads) named ∙ from.texts;
+-- the reads of the files of a command that the words make
+pub command-read : {X : Type 0} (files : Option Command → CommandFiles)
+    (asked : Command → Reads → Result X Status) (words : List (List ℕ))
+    (told : List ℕ → Option (List ℕ)) (f f' : List ℕ → ℕ) (command : Command) (reads : Reads)
+    (got : Result X Status) → command_of words ≡ Some command
+    → AreAnswers (files (Some command)) told f f' reads → asked command reads ≡ got
+    → IsFromWords files asked words told f f' got
+command-read files asked words told f f' command reads got named answers is = record {
+  reads = reads;
+  answers = subst (λ (o : Option Command). AreAnswers (files o) told f f' reads) (sym named)
+      answers;
+  texts = ap (λ (o : Option Command). ok_or o Usage >>= λ command. asked command reads) named ∙ is;
 }
 
-module _ (told : List ℕ → Option (List ℕ)) (f0 f3 : List ℕ → ℕ) (files : PlayFiles) where
+-- those of a play
+pub play-read : (words : List (List ℕ)) (told : List ℕ → Option (List ℕ)) (f f' : List ℕ → ℕ)
+    (files : CommandFiles) (got : Result FileTexts Status) → command_of words ≡ Some (Play files)
+    → IsFromCommand files told f f' got → IsFromFiles words told f f' got
+play-read words told f f' files got named from =
+    command-read files_in command_answered words told f f' (Play files) from.reads got named from.answers from.texts
+
+-- those of a run
+pub run-read : (words : List (List ℕ)) (told : List ℕ → Option (List ℕ)) (f f' : List ℕ → ℕ)
+    (files : CommandFiles) (summary : Bool) (got : Result RunFileTexts Status)
+    → command_of words ≡ Some (Run files summary)
+    → IsFromRunFiles files summary told f f' got → IsFromRun words told f f' got
+run-read words told f f' files summary got named from =
+    command-read run_files_in run_answered words told f f' (Run files summary) from.reads got named from.answers from.texts
+
+-- the bytes of a run's files, and the wish for the summary alone
+pub run-texts : (files : CommandFiles) (summary : Bool) (told : List ℕ → Option (List ℕ))
+    (f f' : List ℕ → ℕ) (texts : FileTexts) → IsFromCommand files told f f' (Ok texts)
+    → IsFromRunFiles files summary told f f' (Ok (record { texts = texts; summary = summary }))
+run-texts files summary told f f' texts from = record {
+  reads = from.reads;
+  answers = from.answers;
+  texts = ap (λ (r : Result FileTexts Status). r
+      >>= λ texts. Ok (record { texts = texts; summary = summary })) from.texts;
+}
+
+pub run-unread : (files : CommandFiles) (summary : Bool) (told : List ℕ → Option (List ℕ))
+    (f f' : List ℕ → ℕ) (s : Status) → IsFromCommand files told f f' (Err s)
+    → IsFromRunFiles files summary told f f' (Err s)
+run-unread files summary told f f' s from = record {
+  reads = from.reads;
+  answers = from.answers;
+  texts = ap (λ (r : Result FileTexts Status). r
+      >>= λ texts. Ok (record { texts = texts; summary = summary })) from.texts;
+}
+
+module _ (told : List ℕ → Option (List ℕ)) (f0 f3 : List ℕ → ℕ) (files : CommandFiles) where
   -- the answers of the reads are what comes of the files
   from-answers : (reads : Reads) (got : Result FileTexts Status)
-      → AreAnswers files told f0 f3 reads → play_answered files reads ≡ got
-      → IsFromPlay files told f0 f3 got
+      → AreAnswers files told f0 f3 reads → bytes_answered files reads ≡ got
+      → IsFromCommand files told f0 f3 got
   from-answers reads got are is = record { reads = reads; answers = are; texts = is }
 
   -- the read of the configuration ended the play
   pub config-unread : (f1 : List ℕ → ℕ) (s : Status) → IsLater f0 f1 → IsLater f1 f3
-      → IsFromConfig files.config told f0 f1 (Err s) → IsFromPlay files told f0 f3 (Err s)
+      → IsFromConfig files.config told f0 f1 (Err s) → IsFromCommand files told f0 f3 (Err s)
   config-unread f1 s later last config =
       let reads : Reads = record {
         config = config.answer;
@@ -469,7 +520,7 @@ module _ (told : List ℕ → Option (List ℕ)) (f0 f3 : List ℕ → ℕ) (fil
       (config : IsFromConfig files.config told f0 f1 (Ok text)) where
     -- the reads of the logs ended the play
     pub logs-unread : (f2 : List ℕ → ℕ) (s : Status) → IsLater f1 f2 → IsLater f2 f3
-        → IsFromLogs files.logs told1 f1 f2 (Err s) → IsFromPlay files told f0 f3 (Err s)
+        → IsFromLogs files.logs told1 f1 f2 (Err s) → IsFromCommand files told f0 f3 (Err s)
     logs-unread f2 s next last from =
         let logs = logs-behind files.logs told told1 f0 f1 f2 (Err s) later keeps from in
         let reads : Reads = record {
@@ -494,7 +545,7 @@ module _ (told : List ℕ → Option (List ℕ)) (f0 f3 : List ℕ → ℕ) (fil
       script-answered : (r : Result (List ℕ) Status) (got : Result FileTexts Status)
           → IsFromFile files.script (told2 files.script) (f2 files.script) (f3 files.script) r
           → (r >>= λ s. Ok (record { config = text; logs = texts; script = s })) ≡ got
-          → IsFromPlay files told f0 f3 got
+          → IsFromCommand files told f0 f3 got
       script-answered r got script is =
           let logs = logs-behind files.logs told told1 f0 f1 f2 (Ok texts) later keeps from in
           let reads : Reads = record {
@@ -524,14 +575,14 @@ module _ (told : List ℕ → Option (List ℕ)) (f0 f3 : List ℕ → ℕ) (fil
       -- the script's read ended the play
       pub script-unread : (s : Status)
           → IsFromFile files.script (told2 files.script) (f2 files.script) (f3 files.script) (Err s)
-          → IsFromPlay files told f0 f3 (Err s)
+          → IsFromCommand files told f0 f3 (Err s)
       script-unread s script = script-answered (Err s) (Err s) script refl
 
       -- all were read
       pub all-read : (last_text : List ℕ)
           → IsFromFile files.script (told2 files.script) (f2 files.script) (f3 files.script)
           (Ok last_text)
-          → IsFromPlay files told f0 f3
+          → IsFromCommand files told f0 f3
           (Ok (record { config = text; logs = texts; script = last_text }))
       all-read last_text script = script-answered (Ok last_text) _ script refl
 
@@ -557,15 +608,16 @@ step-fault r s was (inl is) others =
 step-fault r s was (inr b) others = inr (others b)
 
 -- words that make no command, as the whole answers them
-pub command-fault : {C : Type 0} (words : List (List ℕ)) (told : List ℕ → Option (List ℕ))
-    (f : List ℕ → ℕ) (r : Result Texts Status) (s : Status) → r ≡ Err s
+pub command-fault : {C V X : Type 0} (view : V → X) (named : Option Command → CommandFiles)
+    (asked : Command → Reads → Result X Status)
+    (words : List (List ℕ)) (told : List ℕ → Option (List ℕ))
+    (f : List ℕ → ℕ) (r : Result V Status) (s : Status) → r ≡ Err s
     → ◌≡◌ {A = Result C Status} (Err s) (Err NoMemory)
     ⊎ ◌≡◌ {A = Result Command Status} (Err s) (ok_or (command_of words) Usage)
     → (r ≡ Err NoMemory)
-    ⊎ IsFromFiles words told f f (result_map_both texts_of (λ s. s) r)
-command-fault words told f r s was fault =
+    ⊎ IsFromWords named asked words told f f (result_map_both view (λ s. s) r)
+command-fault {V = V} view named asked words told f r s was fault =
     step-fault r s was fault (λ none.
     let is = command-err (command_of words) s none in
-    subst (λ (x : Result Texts Status).
-    IsFromFiles words told f f (result_map_both texts_of (λ s. s) x))
-    (sym (was ∙ ap (λ (x : Status). Err x) is.1)) (no-command words told f f is.0))
+    subst (λ (x : Result V Status). IsFromWords named asked words told f f (result_map_both view (λ s. s) x))
+    (sym (was ∙ ap (λ (x : Status). Err x) is.1)) (no-command named asked words told f f is.0))

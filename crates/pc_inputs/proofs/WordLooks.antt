@@ -6,9 +6,9 @@ use Rattle.std.proofs.lemmas.Bool.{eqb-true}
 use Rattle.std.proofs.lemmas.Str.{IsUtf8-past_char, encodes-chars, encode_ascii}
 use Rattle.std.specs.Str.{IsUtf8, bytes_eq, chars}
 use Rattle.clap.specs.Lexer.{long_of, short_of}
-use Rattle.pc_inputs.specs.Words.{CONFIG}
+use Rattle.pc_inputs.specs.Words.{CONFIG, SUMMARY}
 use Rattle.clap.specs.Walk.{Text}
-use Rattle.pc_inputs.specs.Command.{WordKind, is_hyphened, option_kind}
+use Rattle.pc_inputs.specs.Command.{WordKind, is_hyphened, option_kind, summary_kind}
 use Rattle.pc_inputs.specs.Command.WordKind.{Config, Unknown}
 
 -- ---- how a word looks
@@ -32,7 +32,8 @@ pub record IsLong (word : Text) : Type 0 where
   pub not_end : bytes_eq word (codes "--") ≡ false
   pub long : long_of word ≡ Some (name, value)
   pub hyphened : is_hyphened word ≡ true
-  pub kind : option_kind word ≡ (if bytes_eq CONFIG name then Config value else Unknown)
+  pub kind : option_kind word ≡ (if bytes_eq CONFIG name then Config value
+      else if bytes_eq SUMMARY name then summary_kind value else Unknown)
 
 pub record IsShort (word : Text) : Type 0 where
   pub flags : Text
@@ -64,7 +65,9 @@ after-two rest =
 
 abbrev pub kind_by : Bool → Text → Text → WordKind
 kind_by valued name value = if bytes_eq (codes "--config") name then Config (if valued then Some
-    value else None) else Unknown
+    value else None)
+    else if bytes_eq (codes "--summary") name then summary_kind (if valued then Some value else None)
+    else Unknown
 
 pub looks-long : (b : ℕ) (rest : Text) → IsLong (45 ∷ 45 ∷ b ∷ rest)
 looks-long b rest = record {
@@ -94,25 +97,25 @@ eq-other c other = go (nat_eq 45 c) refl
     go true is = absurd (true≢false (ap (λ (x : ℕ). nat_eq x 45) (eqb-true 45 c is) ∙ other))
     go false is = is
 
--- a word of one hyphen and another byte
-pub other-name : (c : ℕ) (rest : Text) → nat_eq c 45 ≡ false
-    → bytes_eq (codes "--config") (before_first is_equals (45 ∷ c ∷ rest)) ≡ false
-other-name c rest other =
+-- a word of one hyphen and another byte is none of two hyphens
+pub other-name : (name : Text) (c : ℕ) (rest : Text) → nat_eq c 45 ≡ false
+    → bytes_eq (45 ∷ 45 ∷ name) (before_first is_equals (45 ∷ c ∷ rest)) ≡ false
+other-name name c rest other =
     let m = position_or_len is_equals rest in
     let n = position_or_len is_equals (c ∷ rest) in
     let same : 1 + n ≡ suc n = omega arith in
     let same' : 1 + m ≡ suc m = omega arith in
-    ap (λ k. bytes_eq (codes "--config") (take k (45 ∷ c ∷ rest))) same
+    ap (λ k. bytes_eq (45 ∷ 45 ∷ name) (take k (45 ∷ c ∷ rest))) same
     ∙ go (nat_eq c 61) (eq-other c other)
   where
     go : (t : Bool) → nat_eq 45 c ≡ false
-        → bytes_eq (codes "--config") (45 ∷ take (cond (not t) (1 + position_or_len is_equals rest)
+        → bytes_eq (45 ∷ 45 ∷ name) (45 ∷ take (cond (not t) (1 + position_or_len is_equals rest)
         0) (c ∷ rest)) ≡ false
     go true other = refl
     go false other =
         let same : 1 + position_or_len is_equals rest ≡ suc (position_or_len is_equals rest) = omega
         arith in
-        ap (λ k. bytes_eq (codes "--config") (45 ∷ take k (c ∷ rest))) same ∙ rw other refl
+        ap (λ k. bytes_eq (45 ∷ 45 ∷ name) (45 ∷ take k (c ∷ rest))) same ∙ rw other refl
 
 pub looks-short : (c : ℕ) (rest : Text) → IsUtf8 (45 ∷ c ∷ rest) → nat_eq c 45 ≡ false
     → IsShort (45 ∷ c ∷ rest)
@@ -130,7 +133,10 @@ looks-short c rest text other =
       long_enough = refl;
       first = x.1;
       hyphened = refl;
-      kind = rw (other-name c rest other) refl;
+      kind = rw (
+        other-name (codes "config") c rest other,
+        other-name (codes "summary") c rest other,
+      ) refl;
     }
 
 pub looks-two : (c : ℕ) (rest : Text) → IsUtf8 (45 ∷ c ∷ rest) → Looks (45 ∷ c ∷ rest)

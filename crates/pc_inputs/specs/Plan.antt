@@ -23,7 +23,7 @@ use Rattle.pc_inputs.specs.declared.plan.Ground.{Ground}
 use Rattle.pc_inputs.specs.declared.plan.Plan.{Plan}
 use Rattle.pc_inputs.specs.declared.plan.RunPlan.{RunPlan}
 use Rattle.pc_inputs.specs.Configuration.{configured_in}
-use Rattle.pc_inputs.specs.Reading.{◌>>=◌, ReadAnswer, FileRead, FileText, FileTexts, Reads, files_answered}
+use Rattle.pc_inputs.specs.Reading.{◌>>=◌, ReadAnswer, FileRead, FileText, FileTexts, Reads, RunFileTexts, files_answered, run_words_answered}
 use Rattle.pc_inputs.specs.Reading.ReadAnswer.{Bytes, Failed, TooLong}
 
 -- ---- logs
@@ -140,25 +140,42 @@ planned plan = record { settings = plan.setup.settings; lines = plan.script }
 
 -- ---- a run
 
--- with which settings how many workers go through which steps
+-- with which settings how many workers go through which steps, and whether only the summary is wanted
 pub record PlannedRun : Type 0 where
   pub settings : Settings
   pub workers : ℕ
   pub steps : List Step
+  pub summary : Bool
 
 -- the run of these texts, or the status that ends it before it begins; its steps are over as many
 -- parts as there are logs
-abbrev pub run_behind : FileTexts → Result PlannedRun Status
-run_behind texts =
+abbrev pub run_behind : RunFileTexts → Result PlannedRun Status
+run_behind run =
     do
-      ground ← ground_behind texts
-      steps ← steps_or_status (steps_of texts.script (length texts.logs))
-      Ok (record { settings = ground.settings; workers = ground.workers; steps = steps })
+      ground ← ground_behind run.texts
+      steps ← steps_or_status (steps_of run.texts.script (length run.texts.logs))
+      Ok (record {
+        settings = ground.settings;
+        workers = ground.workers;
+        steps = steps;
+        summary = run.summary;
+      })
+
+-- the run that these words and these reads ask for, or the status that ends it before it begins
+abbrev pub plan_to_run : List (List ℕ) → Reads → Result PlannedRun Status
+plan_to_run words reads =
+    do
+      run ← run_words_answered words reads
+      run_behind run
 
 -- what the code keeps of it
 abbrev pub planned_run : RunPlan → PlannedRun
-planned_run plan =
-    record { settings = plan.setup.settings; workers = plan.workers; steps = plan.steps }
+planned_run plan = record {
+  settings = plan.setup.settings;
+  workers = plan.workers;
+  steps = plan.steps;
+  summary = plan.summary;
+}
 
 -- whether the offsets of each log rise
 abbrev pub all_rise : List (Option (List Record)) → Bool

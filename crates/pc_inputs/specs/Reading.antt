@@ -1,17 +1,18 @@
--- What the reads of a play's files answered, and the bytes that they gave.
-use Rattle.std.specs.Prelude.{ℕ, ◌≡◌, ◌≤◌, ◌<◌, ◌+◌, nat_lt, List, [], ◌∷◌, length, map, ok_or, unwrap_or, Option, Some, None, Result, Ok, Err, if◌then◌else◌}
+-- What the reads of a command's files answered, and the bytes that they gave.
+use Rattle.std.specs.Prelude.{ℕ, ◌≡◌, ◌≤◌, ◌<◌, ◌+◌, nat_lt, Bool, List, [], ◌∷◌, length, map, ok_or, unwrap_or, Option, Some, None, Result, Ok, Err, if◌then◌else◌}
 use Rattle.std.specs.List.{AllByRecursion}
 use Rattle.pc_model.specs.declared.limits.TheConstants.{MAX_FILE_BYTES, MAX_LOG_BYTES}
 use Rattle.std.specs.Option.{option_map_or}
 use Rattle.std.specs.declared.vec.Vec.{Vec}
 use Rattle.pc_world.specs.World.{HasRisen}
 use Rattle.pc_inputs.specs.declared.reading.LogText.{LogText}
+use Rattle.pc_inputs.specs.declared.reading.RunTexts.{RunTexts}
 use Rattle.pc_inputs.specs.declared.reading.Texts.{Texts}
 use Rattle.pc_inputs.specs.declared.status.Status.{Status}
 use Rattle.pc_inputs.specs.declared.status.Status.TheVariants as status
 use Rattle.pc_inputs.specs.declared.status.LimitKind.TheVariants.{FileBytes, LogBytes}
-use Rattle.pc_inputs.specs.Command.{Command, PlayFiles, command_of, files_of}
-use Rattle.pc_inputs.specs.Command.Command.{Play}
+use Rattle.pc_inputs.specs.Command.{Command, CommandFiles, command_of, files_in, run_files_in}
+use Rattle.pc_inputs.specs.Command.Command.{Bulk, Play, Run}
 
 -- ---- what the reads answered
 
@@ -36,7 +37,7 @@ pub record FileRead : Type 0 where
   pub name : List ℕ
   pub answer : ReadAnswer
 
--- what the reads of a play's files answered: that of the configuration, those of the logs, in the
+-- what the reads of a command's files answered: that of the configuration, those of the logs, in the
 -- order of the parts, and that of the script. A read that was not made has an answer, too, which it
 -- could have had
 pub record Reads : Type 0 where
@@ -58,8 +59,8 @@ pub record AreLogAnswers (names : List (List ℕ)) (told : List ℕ → Option (
   pub each : AllByRecursion
       (λ read. IsAnswer (told read.name) (before read.name) (after read.name) read.answer) reads
 
--- the answers that may come of the reads of a play's files
-pub record AreAnswers (files : PlayFiles) (told : List ℕ → Option (List ℕ))
+-- the answers that may come of the reads of a command's files
+pub record AreAnswers (files : CommandFiles) (told : List ℕ → Option (List ℕ))
     (before after : List ℕ → ℕ) (reads : Reads) : Type 0 where
   pub config : IsConfigAnswer files.config told before after reads.config
   pub logs : AreLogAnswers files.logs told before after reads.logs
@@ -72,7 +73,7 @@ pub record FileText : Type 0 where
   pub name : List ℕ
   pub bytes : List ℕ
 
--- the bytes of a play's files, where a configuration without a file is the empty text
+-- the bytes of a command's files, where a configuration without a file is the empty text
 pub record FileTexts : Type 0 where
   pub config : List ℕ
   pub logs : List FileText
@@ -90,6 +91,14 @@ texts_of texts = record {
   logs = map text_of texts.logs.items;
   script = texts.script.items;
 }
+
+-- the same of a run's files, with whether only the summary is wanted
+pub record RunFileTexts : Type 0 where
+  pub texts : FileTexts
+  pub summary : Bool
+
+abbrev pub run_texts_of : RunTexts → RunFileTexts
+run_texts_of run = record { texts = texts_of run.texts; summary = run.summary }
 
 infixl 10 ◌>>=◌
 abbrev pub ◌>>=◌ : {X Y : Type 0} → Result X Status → (X → Result Y Status) → Result Y Status
@@ -128,26 +137,49 @@ logs_answered before (read ∷ reads) =
 abbrev pub config_answered : Option (List ℕ) → ReadAnswer → Result (List ℕ) Status
 config_answered name answer = answered (unwrap_or name []) answer
 
--- the bytes of a play's files, or the status of the first read that has one
-abbrev pub play_answered : PlayFiles → Reads → Result FileTexts Status
-play_answered files reads =
+-- the bytes of a command's files, or the status of the first read that has one
+abbrev pub bytes_answered : CommandFiles → Reads → Result FileTexts Status
+bytes_answered files reads =
     do
       config ← config_answered files.config reads.config
       logs ← logs_answered 0 reads.logs
       script ← answered files.script reads.script
       Ok (record { config = config; logs = logs; script = script })
 
+-- the same of the files of a play: another command is no play
 abbrev pub command_answered : Command → Reads → Result FileTexts Status
-command_answered (Play files) reads = play_answered files reads
+command_answered (Play files) reads = bytes_answered files reads
+command_answered (Run files summary) reads = Err status.Usage
+command_answered (Bulk seed records workers) reads = Err status.Usage
 
--- the bytes of the files that the words name, or the status that ends a play before all are read:
--- of the words, of the reads of the configuration, of the logs and of the script, the first that
--- applies
+-- the bytes of a run's files, with whether only the summary is wanted
+abbrev pub run_files_answered : CommandFiles → Bool → Reads → Result RunFileTexts Status
+run_files_answered files summary reads =
+    do
+      texts ← bytes_answered files reads
+      Ok (record { texts = texts; summary = summary })
+
+-- the same of a command: another one is no run
+abbrev pub run_answered : Command → Reads → Result RunFileTexts Status
+run_answered (Play files) reads = Err status.Usage
+run_answered (Run files summary) reads = run_files_answered files summary reads
+run_answered (Bulk seed records workers) reads = Err status.Usage
+
+-- the bytes of the files of the play that the words ask for, or the status that ends it before all
+-- are read: of the words, of the reads of the configuration, of the logs and of the script, the
+-- first that applies
 abbrev pub files_answered : List (List ℕ) → Reads → Result FileTexts Status
 files_answered words reads =
     do
       command ← ok_or (command_of words) status.Usage
       command_answered command reads
+
+-- the same of a run
+abbrev pub run_words_answered : List (List ℕ) → Reads → Result RunFileTexts Status
+run_words_answered words reads =
+    do
+      command ← ok_or (command_of words) status.Usage
+      run_answered command reads
 
 -- ---- what comes of a file, unless memory was wanting
 
@@ -179,16 +211,36 @@ pub record IsFromLogs (names : List (List ℕ)) (told : List ℕ → Option (Lis
   pub answers : AreLogAnswers names told before after reads
   pub texts : logs_answered 0 reads ≡ got
 
--- the same of the reads of a play's files
-pub record IsFromPlay (files : PlayFiles) (told : List ℕ → Option (List ℕ))
+-- the same of the reads of a command's files
+pub record IsFromCommand (files : CommandFiles) (told : List ℕ → Option (List ℕ))
     (before after : List ℕ → ℕ) (got : Result FileTexts Status) : Type 0 where
   pub reads : Reads
   pub answers : AreAnswers files told before after reads
-  pub texts : play_answered files reads ≡ got
+  pub texts : bytes_answered files reads ≡ got
 
--- the same of the reads of all files that the words name
-pub record IsFromFiles (words : List (List ℕ)) (told : List ℕ → Option (List ℕ))
-    (before after : List ℕ → ℕ) (got : Result FileTexts Status) : Type 0 where
+-- the same of a run's files
+pub record IsFromRunFiles (files : CommandFiles) (summary : Bool)
+    (told : List ℕ → Option (List ℕ)) (before after : List ℕ → ℕ)
+    (got : Result RunFileTexts Status) : Type 0 where
   pub reads : Reads
-  pub answers : AreAnswers (files_of words) told before after reads
-  pub texts : files_answered words reads ≡ got
+  pub answers : AreAnswers files told before after reads
+  pub texts : run_files_answered files summary reads ≡ got
+
+-- the same of the reads of the files that the words name, by what comes of their command
+pub record IsFromWords {X : Type 0} (named : Option Command → CommandFiles)
+    (asked : Command → Reads → Result X Status) (words : List (List ℕ))
+    (told : List ℕ → Option (List ℕ)) (before after : List ℕ → ℕ) (got : Result X Status)
+    : Type 0 where
+  pub reads : Reads
+  pub answers : AreAnswers (named (command_of words)) told before after reads
+  pub texts : (ok_or (command_of words) status.Usage >>= λ command. asked command reads) ≡ got
+
+-- what comes of a play
+abbrev pub IsFromFiles : List (List ℕ) → (List ℕ → Option (List ℕ)) → (List ℕ → ℕ) → (List ℕ → ℕ)
+    → Result FileTexts Status → Type 0
+IsFromFiles = IsFromWords files_in command_answered
+
+-- what comes of a run
+abbrev pub IsFromRun : List (List ℕ) → (List ℕ → Option (List ℕ)) → (List ℕ → ℕ) → (List ℕ → ℕ)
+    → Result RunFileTexts Status → Type 0
+IsFromRun = IsFromWords run_files_in run_answered

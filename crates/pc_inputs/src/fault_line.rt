@@ -93,12 +93,7 @@ fn put_bad_line(
 
 /// Appends the fault line of a record that failed as often as it may.
 #[tactic(auto, unfolding(crate::specs::Status::fault_line))]
-fn put_undrained(
-    out: &mut Vec<u8>,
-    part: u32,
-    offset: u64,
-    failures: u32,
-) -> Result<(), AllocError>
+fn put_undrained(out: &mut Vec<u8>, part: u32, offset: u64, failures: u32) -> Result<(), AllocError>
     ensures ok { OnOk result (out.new.items
         ≡ out.old.items ++ fault_line (Undrained part offset failures)) }
     ensures err { OnErr result (out.new.items ≡ out.old.items) }

@@ -14,7 +14,11 @@ mod reading;
 mod status;
 mod words;
 
+pub use command::{BulkRun, bulk_asked};
 pub use fault_line::put_fault;
 pub use plan::{Plan, RunPlan, plan_of, run_plan_of};
-pub use reading::{LogText, Texts, read_files};
+pub use reading::{LogText, RunTexts, Texts, read_files, read_run};
 pub use status::{LimitKind, NO_MEMORY, Status};
+
+#[cfg(test)]
+mod tests;

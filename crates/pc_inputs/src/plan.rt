@@ -3,12 +3,12 @@
 ghost use Rattle.std.specs.Prelude.{◌≡◌, ◌≤◌, ◌⊎◌, ◌<◌, Err, IfErr, IfOk, OnOk, length, map, true};
 ghost use Rattle.std.specs.Result.{result_map_both};
 ghost use Rattle.pc_cursor.specs.Log.{all_batches, contents_of, records_of};
-ghost use Rattle.pc_inputs.specs.Reading.{text_of, texts_of};
+ghost use Rattle.pc_inputs.specs.Reading.{run_texts_of, text_of, texts_of};
 ghost use Rattle.pc_inputs.specs.Plan.{AddsLog, IsOverfull, checked_logs, few_records, ground, ground_behind, log_or_status, logs_of, logs_with, plan_behind, planned, planned_run, run_behind};
 ghost use Rattle.pc_inputs.specs.declared.status.Status.TheVariants.{NoMemory};
 
 use crate::configuration::config_in;
-use crate::reading::{LogText, Texts};
+use crate::reading::{LogText, RunTexts, Texts};
 use crate::status::{LimitKind, Status};
 use pc_broker_log::{AddFault, BrokerLogs};
 use pc_config::Config;
@@ -40,6 +40,8 @@ pub struct RunPlan<'a> {
     pub logs: BrokerLogs<'a>,
     /// The steps, in order, over the parts of the logs.
     pub steps: Steps,
+    /// Whether only the summary is wanted.
+    pub summary: bool,
 }
 
 /// What a command stands on, whatever its script is.
@@ -71,11 +73,12 @@ pub fn plan_of<'a>(alloc: Global, texts: &'a Texts<'_>) -> Result<Plan<'a>, Stat
 /// What the texts of a run's files ask for, or the status that ends the run before it begins: of the
 /// configuration, of the logs in order, of the number of their records, and of the script, the first
 /// that applies.
-pub fn run_plan_of<'a>(alloc: Global, texts: &'a Texts<'_>) -> Result<RunPlan<'a>, Status>
-    requires { length texts.now.logs.items ≤ MAX_PARTS }
+pub fn run_plan_of<'a>(alloc: Global, run: &'a RunTexts<'_>) -> Result<RunPlan<'a>, Status>
+    requires { length run.now.texts.logs.items ≤ MAX_PARTS }
     ensures plan { (result ≡ Err NoMemory)
-        ⊎ (result_map_both planned_run (λ s. s) result ≡ run_behind (texts_of texts.now)) }
-    ensures logs { IfOk result (λ plan. plan.logs ≡ logs_of (map text_of texts.now.logs.items)) }
+        ⊎ (result_map_both planned_run (λ s. s) result ≡ run_behind (run_texts_of run.now)) }
+    ensures logs { IfOk result
+        (λ plan. plan.logs ≡ logs_of (map text_of run.now.texts.logs.items)) }
     ensures workers_least { IfOk result (λ plan. 1 ≤ plan.workers) }
     ensures workers_most { IfOk result (λ plan. plan.workers ≤ 256) }
 {
@@ -83,14 +86,15 @@ pub fn run_plan_of<'a>(alloc: Global, texts: &'a Texts<'_>) -> Result<RunPlan<'a
         setup,
         workers,
         logs,
-    } = ground_of(alloc, texts)?;
-    let parts = texts.logs.len() as u32;
-    let steps = read_steps(alloc, texts.script.as_slice(), parts)?;
+    } = ground_of(alloc, &run.texts)?;
+    let parts = run.texts.logs.len() as u32;
+    let steps = read_steps(alloc, run.texts.script.as_slice(), parts)?;
     Ok(RunPlan {
         setup,
         workers,
         logs,
         steps,
+        summary: run.summary,
     })
 }
 

@@ -1,12 +1,12 @@
-//! The bytes of a play's files, or the status that ends the play before all of them are read.
+//! The bytes of a command's files, or the status that ends the command before all of them are read.
 
 ghost use Rattle.std.specs.Prelude.{◌≡◌, ◌≤◌, ◌⊎◌, ◌+◌, List, ℕ, Err, IfOk, length, map, option_map, string_bytes};
 ghost use Rattle.std.specs.Result.{result_map_both};
-ghost use Rattle.pc_inputs.specs.Reading.{IsFromConfig, IsFromFile, IsFromFiles, IsFromLog, IsFromLogs, IsFromPlay, config_text, text_of, texts_of, within};
-ghost use Rattle.pc_inputs.specs.Words.{plain_play};
+ghost use Rattle.pc_inputs.specs.Reading.{IsFromCommand, IsFromConfig, IsFromFile, IsFromFiles, IsFromLog, IsFromLogs, IsFromRun, IsFromRunFiles, config_text, run_texts_of, text_of, texts_of, within};
+ghost use Rattle.pc_inputs.specs.Words.{plain_files};
 ghost use Rattle.pc_inputs.specs.declared.status.Status.TheVariants.{NoMemory};
 
-use crate::command::{PlayFiles, command_of, files_of};
+use crate::command::{Command, CommandFiles, command_of};
 use crate::status::{LimitKind, Status};
 use pc_model::NameText;
 use pc_model::limits::{MAX_FILE_BYTES, MAX_LOG_BYTES, MAX_PARTS};
@@ -22,7 +22,7 @@ pub struct LogText<'a> {
     pub bytes: Vec<u8>,
 }
 
-/// The bytes of a play's files.
+/// The bytes of a command's files.
 #[derive(Debug, Drop)]
 pub struct Texts<'a> {
     /// Nothing where no file of a configuration is named.
@@ -33,9 +33,17 @@ pub struct Texts<'a> {
     pub script: Vec<u8>,
 }
 
-/// The bytes of the files that the words name, or the status that ends the play before all are
-/// read: of the words, of the reads of the configuration, of the logs and of the script, the first
-/// that applies.
+/// The bytes of a run's files.
+#[derive(Debug, Drop)]
+pub struct RunTexts<'a> {
+    pub texts: Texts<'a>,
+    /// Whether only the summary is wanted.
+    pub summary: bool,
+}
+
+/// The bytes of the files of the play that the words ask for, or the status that ends it before all
+/// are read: of the words, of the reads of the configuration, of the logs and of the script, the
+/// first that applies. Words that ask for another command are `Usage`.
 pub fn read_files<'a, F: Files>(
     alloc: Global,
     words: &'a [String],
@@ -46,18 +54,60 @@ pub fn read_files<'a, F: Files>(
         (result_map_both texts_of (λ s. s) result) }
     ensures few { IfOk result (λ texts. length texts.logs.items ≤ MAX_PARTS) }
 {
-    let names = files_of(command_of(alloc, words)?);
-    read_play(alloc, &names, files)
+    let command = command_of(alloc, words)?;
+    match command {
+        Command::Play(names) => read_command(alloc, &names, files),
+        Command::Run { .. } | Command::Bulk(_) => Err(Status::Usage),
+    }
 }
 
-/// The bytes of a play's files.
-fn read_play<'a, F: Files>(
+/// The same of the run that the words ask for.
+pub fn read_run<'a, F: Files>(
     alloc: Global,
-    names: &PlayFiles<'a>,
+    words: &'a [String],
+    files: &mut F,
+) -> Result<RunTexts<'a>, Status>
+    ensures texts { (result ≡ Err NoMemory) ⊎ IsFromRun (map string_bytes words.now)
+        (F.told files.old) (F.faults files.old) (F.faults files.new)
+        (result_map_both run_texts_of (λ s. s) result) }
+    ensures few { IfOk result (λ run. length run.texts.logs.items ≤ MAX_PARTS) }
+{
+    let command = command_of(alloc, words)?;
+    match command {
+        Command::Play(_) | Command::Bulk(_) => Err(Status::Usage),
+        Command::Run {
+            files: names,
+            summary,
+        } => read_run_files(alloc, &names, summary, files),
+    }
+}
+
+/// The bytes of a run's files.
+fn read_run_files<'a, F: Files>(
+    alloc: Global,
+    names: &CommandFiles<'a>,
+    summary: bool,
+    files: &mut F,
+) -> Result<RunTexts<'a>, Status>
+    ensures texts { (result ≡ Err NoMemory) ⊎ IsFromRunFiles (plain_files names.now) summary
+        (F.told files.old) (F.faults files.old) (F.faults files.new)
+        (result_map_both run_texts_of (λ s. s) result) }
+    ensures many { IfOk result
+        (λ run. length run.texts.logs.items ≡ length names.now.logs.items) }
+{
+    let texts = read_command(alloc, names, files)?;
+    Ok(RunTexts { texts, summary })
+}
+
+/// The bytes of a command's files.
+fn read_command<'a, F: Files>(
+    alloc: Global,
+    names: &CommandFiles<'a>,
     files: &mut F,
 ) -> Result<Texts<'a>, Status>
-    ensures texts { (result ≡ Err NoMemory) ⊎ IsFromPlay (plain_play names.now) (F.told files.old)
-        (F.faults files.old) (F.faults files.new) (result_map_both texts_of (λ s. s) result) }
+    ensures texts { (result ≡ Err NoMemory) ⊎ IsFromCommand (plain_files names.now)
+        (F.told files.old) (F.faults files.old) (F.faults files.new)
+        (result_map_both texts_of (λ s. s) result) }
     ensures many { IfOk result (λ texts. length texts.logs.items ≡ length names.now.logs.items) }
 {
     let config = read_config(alloc, files, names.config)?;

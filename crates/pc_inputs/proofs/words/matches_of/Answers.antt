@@ -8,11 +8,11 @@ use Rattle.pc_inputs.specs.Words.{refused}
 use Rattle.pc_inputs.specs.declared.status.Status.{Status}
 use Rattle.pc_inputs.specs.declared.status.Status.TheVariants.{Usage}
 use Rattle.pc_inputs.proofs.WordSteps.{app-is_simple, app-simple}
-use Rattle.pc_inputs.proofs.WordsLemmas.{clap-found, clap-refused, texts-are}
+use Rattle.pc_inputs.proofs.WordsLemmas.{clap-flag, clap-found, clap-refused, texts-are}
 use Rattle.pc_inputs.proofs.words.matches_of.Goals as goal
 
-pub returns-in-Ok : goal.returns-in-Ok
-returns-in-Ok c =
+pub returns-in-Ok-clause-found : goal.returns-in-Ok-clause-found
+returns-in-Ok-clause-found c =
     let app = c.in_ok-command.ensures in
     let words = map string_bytes c.args.words.now in
     let found = c.in-Ok.ensures.matches (ap is_simple app ∙ app-is_simple) in
@@ -21,8 +21,17 @@ returns-in-Ok c =
     c.args.words.now)
     (found.0 ∙ ap (λ a. matches_of a words) app) (sym (ap (λ a. fault_of a words) app) ∙ taken))))
 
-pub returns-in-Err : goal.returns-in-Err
-returns-in-Err c =
+pub returns-in-Ok-clause-flag : goal.returns-in-Ok-clause-flag
+returns-in-Ok-clause-flag c =
+    let app = c.in_ok-command.ensures in
+    let words = map string_bytes c.args.words.now in
+    let found = c.in-Ok.ensures.matches (ap is_simple app ∙ app-is_simple) in
+    let taken = c.in-Ok.ensures.kinds (ap is_simple_and_free app ∙ app-simple) in
+    clap-flag c.in-Ok.matches words (texts-are c.args.words.now)
+    (found.0 ∙ ap (λ a. matches_of a words) app) (sym (ap (λ a. fault_of a words) app) ∙ taken)
+
+pub returns-in-Err-clause-found : goal.returns-in-Err-clause-found
+returns-in-Err-clause-found c =
     let app = c.in_ok-command.ensures in
     let words = map string_bytes c.args.words.now in
     let kinds = c.in-Err.ensures.kinds (ap is_simple_and_free app ∙ app-simple) in

@@ -4,22 +4,22 @@ use Rattle.std.specs.Borrow.{Bor}
 use Rattle.std.specs.Result.{result_map_both}
 use Rattle.std.proofs.lemmas.Result.{err_from_is_err_and}
 use Rattle.pc_inputs.specs.declared.status.Status.{Status}
-use Rattle.pc_inputs.specs.Words.{plain_play}
-use Rattle.pc_inputs.specs.Reading.{IsFromConfig, IsFromFile, IsFromPlay, IsFromLogs, config_text, text_of, texts_of}
+use Rattle.pc_inputs.specs.Words.{plain_files}
+use Rattle.pc_inputs.specs.Reading.{IsFromConfig, IsFromFile, IsFromCommand, IsFromLogs, config_text, text_of, texts_of}
 use Rattle.pc_inputs.proofs.ReadingLemmas.{all-read, config-unread, logs-unread, script-unread, step-fault, was-read}
-use Rattle.pc_inputs.proofs.reading.read_play.Goals as goal
+use Rattle.pc_inputs.proofs.reading.read_command.Goals as goal
 
 pub returns-in_err-config-clause-texts : goal.returns-in_err-config-clause-texts
 returns-in_err-config-clause-texts g c =
     let got = err_from_is_err_and c.from_residual.result c.from_residual.ensures.1 in
     let is = got.1 ∙ ap (λ (s : Status). Err s) got.2 in
-    let files = plain_play c.args.names.now in
+    let files = plain_files c.args.names.now in
     step-fault {
     B = IsFromConfig files.config (g.F.Files.told c.args.files.now)
     (g.F.Files.faults c.args.files.now) (g.F.Files.faults c.read_config.new.files)
     (Err c.in_err-config.field-0.0)
     } c.from_residual.result c.in_err-config.field-0.0 is c.in_err-config.ensures.text
-    (λ config. subst (λ r. IsFromPlay files (g.F.Files.told c.args.files.now)
+    (λ config. subst (λ r. IsFromCommand files (g.F.Files.told c.args.files.now)
     (g.F.Files.faults c.args.files.now) (g.F.Files.faults c.read_config.new.files)
     (result_map_both texts_of (λ s. s) r)) (sym is)
     (config-unread (g.F.Files.told c.args.files.now) (g.F.Files.faults c.args.files.now)
@@ -31,13 +31,13 @@ returns-in_err-logs-clause-texts g c =
     let got = err_from_is_err_and c.from_residual-in_err-logs.result
     c.from_residual-in_err-logs.ensures.1 in
     let is = got.1 ∙ ap (λ (s : Status). Err s) got.2 in
-    let files = plain_play c.args.names.now in
+    let files = plain_files c.args.names.now in
     step-fault {
     B = IsFromLogs (map (λ n. n.now) c.as_slice.result.now)
     (g.F.Files.told c.read_config.new.files) (g.F.Files.faults c.read_config.new.files)
     (g.F.Files.faults c.read_logs.new.files) (Err c.in_err-logs.field-0.0)
     } c.from_residual-in_err-logs.result c.in_err-logs.field-0.0 is c.in_err-logs.ensures.texts
-    (λ logs. subst (λ r. IsFromPlay files (g.F.Files.told c.args.files.now)
+    (λ logs. subst (λ r. IsFromCommand files (g.F.Files.told c.args.files.now)
     (g.F.Files.faults c.args.files.now) (g.F.Files.faults c.read_logs.new.files)
     (result_map_both texts_of (λ s. s) r)) (sym is)
     (logs-unread (g.F.Files.told c.args.files.now) (g.F.Files.faults c.args.files.now)
@@ -57,14 +57,14 @@ returns-in_err-script-clause-texts g c =
     let got = err_from_is_err_and c.from_residual-in_err-script.result
     c.from_residual-in_err-script.ensures.1 in
     let is = got.1 ∙ ap (λ (s : Status). Err s) got.2 in
-    let files = plain_play c.args.names.now in
+    let files = plain_files c.args.names.now in
     step-fault {
     B = IsFromFile files.script (g.F.Files.told c.read_logs.new.files files.script)
     (g.F.Files.faults c.read_logs.new.files files.script)
     (g.F.Files.faults c.read.new.files files.script) (Err c.in_err-script.field-0.0)
     } c.from_residual-in_err-script.result c.in_err-script.field-0.0 is
     c.in_err-script.ensures.answer
-    (λ script. subst (λ r. IsFromPlay files (g.F.Files.told c.args.files.now)
+    (λ script. subst (λ r. IsFromCommand files (g.F.Files.told c.args.files.now)
     (g.F.Files.faults c.args.files.now) (g.F.Files.faults c.read.new.files)
     (result_map_both texts_of (λ s. s) r)) (sym is)
     (script-unread (g.F.Files.told c.args.files.now) (g.F.Files.faults c.args.files.now)
@@ -83,7 +83,7 @@ returns-in_err-script-clause-texts g c =
 
 pub returns-clause-texts : goal.returns-clause-texts
 returns-clause-texts g c =
-    let files = plain_play c.args.names.now in
+    let files = plain_files c.args.names.now in
     inr (all-read (g.F.Files.told c.args.files.now) (g.F.Files.faults c.args.files.now)
     (g.F.Files.faults c.read.new.files) files (g.F.Files.faults c.read_config.new.files)
     (g.F.Files.told c.read_config.new.files) (config_text c.in_ok-config.config)
