@@ -51,8 +51,8 @@ word_kind word = if bytes_eq word (codes "--") then EndOfOptions
 
 -- ---- all words
 
--- what words say: the file of the configuration, if one is named, whether only the summary is wanted,
--- and the other files
+-- what words say: the file of the configuration, if one is named, whether only the summary is
+-- wanted, and the other files
 pub record Said : Type 0 where
   pub config : Option (List ℕ)
   pub summary : Bool

@@ -140,7 +140,8 @@ planned plan = record { settings = plan.setup.settings; lines = plan.script }
 
 -- ---- a run
 
--- with which settings how many workers go through which steps, and whether only the summary is wanted
+-- with which settings how many workers go through which steps, and whether only the summary is
+-- wanted
 pub record PlannedRun : Type 0 where
   pub settings : Settings
   pub workers : ℕ

@@ -37,9 +37,9 @@ pub record FileRead : Type 0 where
   pub name : List ℕ
   pub answer : ReadAnswer
 
--- what the reads of a command's files answered: that of the configuration, those of the logs, in the
--- order of the parts, and that of the script. A read that was not made has an answer, too, which it
--- could have had
+-- what the reads of a command's files answered: that of the configuration, those of the logs, in
+-- the order of the parts, and that of the script. A read that was not made has an answer, too, which
+-- it could have had
 pub record Reads : Type 0 where
   pub config : ReadAnswer
   pub logs : List FileRead

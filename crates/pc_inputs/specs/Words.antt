@@ -18,8 +18,8 @@ use Rattle.pc_inputs.specs.declared.command.CommandFiles.{CommandFiles as FileWo
 use Rattle.pc_inputs.specs.Command.{Command, CommandFiles, Said}
 use Rattle.pc_inputs.specs.Command.Command.{Bulk, Play, Run}
 
--- the ids of the option that names the file of the configuration, of the wish for the summary alone, and of
--- all other files
+-- the ids of the option that names the file of the configuration, of the wish for the summary
+-- alone, and of all other files
 abbrev pub CONFIG : List ℕ
 CONFIG = codes "config"
 

@@ -52,8 +52,8 @@ pub(crate) struct CommandFiles<'a> {
 
 /// The command that the words make: `play [--config FILE] LOG... SCRIPT` or
 /// `run [--config FILE] [--summary] LOG... SCRIPT`, with 1 to 1,024 logs, or
-/// `bulk SEED RECORDS WORKERS`. Fails with `Usage` if they make none, and with `NoMemory` when out of
-/// memory.
+/// `bulk SEED RECORDS WORKERS`. Fails with `Usage` if they make none, and with `NoMemory` when out
+/// of memory.
 pub(crate) fn command_of<'a>(alloc: Global, words: &'a [String]) -> Result<Command<'a>, Status>
     ensures command { (result ≡ Err NoMemory) ⊎ (result_map_both plain_command (λ s. s) result
         ≡ ok_or (command_of (map string_bytes words.now)) Usage) }
@@ -67,8 +67,9 @@ pub(crate) fn command_of<'a>(alloc: Global, words: &'a [String]) -> Result<Comma
     }
 }
 
-/// The run over logs that are made for which the words ask: `bulk SEED RECORDS WORKERS`. Words that ask
-/// for another command, or for none, are `Usage`.
+/// The run over logs that are made from a seed for which the words ask, which are
+/// `bulk SEED RECORDS WORKERS`. Fails with `Usage` if they ask for another command or for none, and
+/// with `NoMemory` when out of memory.
 pub fn bulk_asked(alloc: Global, words: &[String]) -> Result<BulkRun, Status>
     ensures { (result ≡ Err NoMemory) ⊎ (result_map_both plain_bulk (λ s. s) result
         ≡ ok_or (bulk_in (command_of (map string_bytes words.now))) Usage) }

@@ -1,7 +1,8 @@
-//! What a command reads before anything is played: its words, its files, and the plan that they make.
+//! What a command reads before anything is played or run: its words, its files, and the plan that
+//! they make.
 //!
-//! `read_files` gives the bytes of the files that the words name, and `plan_of` what they ask for. Each
-//! fails with a `Status`, whose fault line `put_fault` appends.
+//! `read_files` gives the bytes of a play's files, and `plan_of` what they ask for; `read_run` and
+//! `run_plan_of` do so of a run. Each fails with a `Status`, whose fault line `put_fault` appends.
 #![tactic(auto)]
 
 mod command;

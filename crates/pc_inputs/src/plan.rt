@@ -70,9 +70,9 @@ pub fn plan_of<'a>(alloc: Global, texts: &'a Texts<'_>) -> Result<Plan<'a>, Stat
     })
 }
 
-/// What the texts of a run's files ask for, or the status that ends the run before it begins: of the
-/// configuration, of the logs in order, of the number of their records, and of the script, the first
-/// that applies.
+/// What the texts of a run's files ask for, or the status that ends the run before it begins: of
+/// the configuration, of the logs in order, of the number of their records, and of the script, the
+/// first that applies.
 pub fn run_plan_of<'a>(alloc: Global, run: &'a RunTexts<'_>) -> Result<RunPlan<'a>, Status>
     requires { length run.now.texts.logs.items ≤ MAX_PARTS }
     ensures plan { (result ≡ Err NoMemory)

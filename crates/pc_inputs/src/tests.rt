@@ -28,8 +28,8 @@ fn words_of(alloc: Global, text: &str) -> Result<Vec<String>, AllocError> {
     Ok(words)
 }
 
-/// The number of the status that words and files end a run with before it begins, or how many workers
-/// it has, how many steps, and whether only the summary is wanted.
+/// The number of the status that words and files end a run with before it begins, or how many
+/// workers it has, how many steps, and whether only the summary is wanted.
 type Asked = Result<(u32, u64, bool), u8>;
 
 /// Over `a.log`, which has three records, and two scripts of which the second has a bad line.

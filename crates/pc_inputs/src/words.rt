@@ -33,8 +33,8 @@ pub(crate) struct Said<'a> {
     pub(crate) files: Vec<&'a str>,
 }
 
-/// What the words say. Fails with `Usage` if an option is unknown, stands twice, lacks its file or has
-/// a value that it does not take, and with `NoMemory` when out of memory.
+/// What the words say. Fails with `Usage` if an option is unknown, stands twice, lacks its file or
+/// has a value that it does not take, and with `NoMemory` when out of memory.
 pub(crate) fn said_by<'a>(alloc: Global, words: &'a [String]) -> Result<Said<'a>, Status>
     ensures { (result ≡ Err NoMemory) ⊎ (result_map_both plain_said (λ s. s) result
         ≡ ok_or (said_by false (map string_bytes words.now)) Usage) }

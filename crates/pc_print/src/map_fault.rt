@@ -19,8 +19,9 @@ pub fn put_map_line<'a>(
     third: Word<'a>,
     fault: MapFault,
 ) -> Result<(), AllocError>
-    ensures ok { OnOk result (out.new.items ≡ out.old.items ++ (spaced
-        (first.now ∷ word_text second.entry ∷ word_text third.entry ∷ map_words fault) ++ 10 ∷ [])) }
+    ensures ok { OnOk result (out.new.items ≡ out.old.items
+        ++ (spaced (first.now ∷ word_text second.entry ∷ word_text third.entry ∷ map_words fault)
+        ++ 10 ∷ [])) }
     ensures err { OnErr result (out.new.items ≡ out.old.items) }
 {
     let (kind, letter): (&[u8], Option<u8>) = match fault {
