@@ -59,7 +59,7 @@ module _ (before after : Stand) (later : before.faults ≤ after.faults) where
         last = le_trans have.last later;
       })
 
-  causes-more : (e : Event) → IsCaused before after e → after.history ≡ e ∷ before.history
+  pub causes-more : (e : Event) → IsCaused before after e → after.history ≡ e ∷ before.history
       → KeepsCauses before after
   causes-more e caused same refuses start agrees have =
       subst (λ (k : List Event). HaveCauses refuses start k after.faults) (sym same) (record {
@@ -102,7 +102,7 @@ equal-codes : (a b : ℤ) → not (not (int_eq a b)) ≡ true → a ≡ b
 equal-codes a b is = (Decides-int_eq a b).0 (not-false (int_eq a b) (not-true (not (int_eq a b)) is))
 
 -- a commit that failed was refused by the broker, or the count rose
-failed-cause : (failed : ClientFault) (before after : Stand) (p : ℕ) (c : StoredCommit)
+pub failed-cause : (failed : ClientFault) (before after : Stand) (p : ℕ) (c : StoredCommit)
     → (failed ≡ client.NoMemory → ⊥)
     → (◌≡◌ {A = Result (Unit {0}) ClientFault} (Err failed) (Err client.LinkFailed)
     → HasRisen before.faults after.faults)

@@ -126,6 +126,7 @@ left-refused given h p n (r ∷ rs) free =
     unpressed true true free = refl
     unpressed true false free = cc
     unpressed false upto free = refl
+
     by-room : (full : Bool) → IfErr (if full then refuses JournalFull
         else polls p (next_records given h p n)).answer IsRefusal
     by-room true = tt
@@ -169,8 +170,11 @@ none-uncommitted : (given : Given) (h : List Event)
 unfolding first_uncommitted is_stored
 none-uncommitted given h saved = first-none (uncommitted_at given h) (parts_of given) (λ p i.
     elim (cases_Bool (is_held h p)) [
-      | inl held ↦ rw (held, no-other (position_of given h p) (may_store given h p)
-          (saved-stored given h p (find-none (is_unsaved given h) p (parts_of given) saved i) held))
+      | inl held ↦ rw (
+        held,
+        no-other (position_of given h p) (may_store given h p)
+            (saved-stored given h p (find-none (is_unsaved given h) p (parts_of given) saved i) held),
+      )
           refl
       | inr free ↦ rw free refl
     ])

@@ -126,8 +126,11 @@ module _ {L T : Type 0} (store : L → Broker) (faults : L → ℕ) (outcome : T
     answer = Ok moved;
     clock = alone-of store faults outcome old new (tick_step old.journal.events now) (Ok moved) does
         keeps;
-    rest = (concludes-over (given_of outcome old) (given_of outcome new) job due code
-        (stand_of store faults new) (stand_of store faults last) keeps.given bad concludes, refl);
+    rest = (
+      concludes-over (given_of outcome old) (given_of outcome new) job due code
+          (stand_of store faults new) (stand_of store faults last) keeps.given bad concludes,
+      refl,
+    );
   }
 
   pub fails-dropped : (fault : EngineFault)

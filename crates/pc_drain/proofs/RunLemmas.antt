@@ -113,14 +113,14 @@ result-of given h job outcome =
     elim (cases_Bool (is_held h job.part && (job.epoch == epoch_of h job.part))) [
       | inl current ↦ rw current (by-outcome outcome)
       | inr past ↦ rw past (record {
-          place = refl;
-          follow = λ steps. refl;
-          paced = λ steps. refl;
-          any = λ e. refl;
-          goes_on = refl;
-          settled = refl;
-          workers = refl;
-        })
+        place = refl;
+        follow = λ steps. refl;
+        paced = λ steps. refl;
+        any = λ e. refl;
+        goes_on = refl;
+        settled = refl;
+        workers = refl;
+      })
     ]
   where
     by-outcome : (due : Outcome) → IsResult given h (settled_event given h job due)

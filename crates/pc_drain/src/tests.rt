@@ -7,7 +7,10 @@ use pc_broker_log::BrokerLogs;
 use pc_cursor::Log;
 use pc_engine::Engine;
 use pc_mailbox::{Inbox, Mailbox, Sender};
-use pc_model::{BadMapRule, Delays, Event, FailRule, FailRules, Journal, Order, Rules, Settings, Setup, Starts, Work};
+use pc_model::{
+    BadMapRule, Delays, Event, FailRule, FailRules, Journal, Order, Rules, Settings, Setup, Starts,
+    Work,
+};
 use pc_offset_client::{ClientFault, TOPIC};
 use pc_offset_store::OffsetBroker;
 use pc_task::{Finished, RuleTask, Task};
@@ -251,7 +254,15 @@ fn answers<'a, R: Wait>(
     };
     let mut answers = [(None, 0); 25];
     for i in 0..25 {
-        let turn = answer(rt, alloc, &mut engine, &mailbox, &mut senders, &mut inbox, ROWS[i].0);
+        let turn = answer(
+            rt,
+            alloc,
+            &mut engine,
+            &mailbox,
+            &mut senders,
+            &mut inbox,
+            ROWS[i].0,
+        );
         answers[i] = (turn.unwrap_or(None), engine.events());
     }
     Ok((answers, engine.into_parts().0))

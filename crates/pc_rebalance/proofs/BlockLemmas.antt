@@ -74,14 +74,14 @@ module _ (h h' : List Event) where
   comes-refused es (Err NoMemory) fault does = Refused NoMemory refl does
   comes-refused es (Err other) fault does = Refused fault does.0 does.1
 
-  comes-whole : (es : List Event) (r : Result (Unit {0}) EngineFault)
+  pub comes-whole : (es : List Event) (r : Result (Unit {0}) EngineFault)
       → Does r (record { answer = Ok tt; events = es }) h h' → Comes es h h' r
   comes-whole es (Ok done) does = Whole does.0 does.1
   comes-whole es (Err NoMemory) does = Refused NoMemory refl does
   comes-whole es (Err other) does = let is : Err other ≡ Ok tt = does.0 in cc
 
   -- a loss
-  comes-lost : (p : ℕ) (x : Option EngineFault) (r : Result (Unit {0}) EngineFault)
+  pub comes-lost : (p : ℕ) (x : Option EngineFault) (r : Result (Unit {0}) EngineFault)
       → Does r (lose_after h p x) h h' → Comes (Lost p (epoch_of h p) ∷ []) h h' r
   comes-lost p None r does = comes-whole (Lost p (epoch_of h p) ∷ []) r does
   comes-lost p (Some fault) r does = comes-refused (Lost p (epoch_of h p) ∷ []) r fault does
@@ -121,7 +121,7 @@ module _ (h h' : List Event) where
       assigned-with p stored _ r does
 
   -- a revocation: with a commit of the part, stored or failed
-  abbrev IsGivenBack : ℕ → Result (Unit {0}) EngineFault → Type 0
+  abbrev pub IsGivenBack : ℕ → Result (Unit {0}) EngineFault → Type 0
   IsGivenBack p r = (epoch : ℕ) × (c : Event) × IsCommitOf p c
       × Comes (Revoke p epoch ∷ c ∷ []) h h' r
 
@@ -155,7 +155,7 @@ module _ (h h' : List Event) where
         ∷ []) r does,
   )
 
-  given_back-after : (given : Given) (p : ℕ) (asked : Result (Unit {0}) ClientFault)
+  pub given_back-after : (given : Given) (p : ℕ) (asked : Result (Unit {0}) ClientFault)
       (x : Option EngineFault) (r : Result (Unit {0}) EngineFault) → Does r (record {
         answer = outcome_alone (revoke_after given h p asked x).answer;
         events = (revoke_after given h p asked x).events;

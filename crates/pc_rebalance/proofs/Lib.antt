@@ -3,3 +3,4 @@ pub mod BlockLemmas
 pub mod RefusalLemmas
 pub mod OutsideLemmas
 pub mod HeldLemmas
+pub mod StopLemmas

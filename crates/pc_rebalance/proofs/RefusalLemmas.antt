@@ -60,7 +60,7 @@ risen-after a b c le (inl less) = inl (omega arith)
 risen-after a b c le (inr most) = inr most
 
 -- a call that was refused so
-same-fault : (e f : EngineFault) → ◌≡◌ {A = Result (Unit {0}) EngineFault} (Err e) (Err f) → e ≡ f
+pub same-fault : (e f : EngineFault) → ◌≡◌ {A = Result (Unit {0}) EngineFault} (Err e) (Err f) → e ≡ f
 same-fault e f is = cc
 
 -- and has this refusal of its own

@@ -1,3 +1,4 @@
 pub mod Apply
 pub mod Block
 pub mod Refusal
+pub mod Stop

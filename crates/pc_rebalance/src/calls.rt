@@ -60,7 +60,7 @@ fn crash<L: Link, T: Task>(alloc: Global, engine: &mut Engine<'_, L, T>) -> Resu
 }
 
 /// The parts that are held, in rising order.
-fn held_parts<L: Link, T: Task>(
+pub(crate) fn held_parts<L: Link, T: Task>(
     alloc: Global,
     engine: &Engine<'_, L, T>,
 ) -> Result<Vec<u32>, AllocError>

@@ -3,8 +3,10 @@
 
 mod calls;
 pub mod laws;
+mod parts;
 mod steps;
 
+pub use parts::{assigned_parts, first_free};
 pub use steps::{apply, due};
 
 #[cfg(test)]

@@ -1,6 +1,6 @@
 //! The steps of a run: whether one is due, and its block.
 
-ghost use Rattle.std.specs.Prelude.{◌≡◌, List, [], IfErr, OnOk, Err, true};
+ghost use Rattle.std.specs.Prelude.{◌≡◌, ℕ, List, [], IfErr, OnOk, Err, true};
 ghost use Rattle.pc_model.specs.declared.step.Step.{Step};
 ghost use Rattle.pc_model.specs.Given.{has_log};
 ghost use Rattle.pc_model.specs.Pace.{is_paced};
@@ -8,13 +8,14 @@ ghost use Rattle.pc_model.specs.Steps.{follows, is_step_due, may_begin, place_of
 ghost use Rattle.pc_offset_client.specs.declared.fault.ClientFault.TheVariants.{LinkFailed};
 ghost use Rattle.pc_run_laws.specs.Run.{AnyMayCome};
 ghost use Rattle.pc_world.specs.World.{HasRisen};
-ghost use Rattle.pc_engine.specs.declared.fault.EngineFault.TheVariants.{Client as Failed};
-ghost use Rattle.pc_engine.specs.Effect.{StoresOnly};
+ghost use Rattle.pc_engine.specs.declared.fault.EngineFault.TheVariants.{Client as Failed, JournalFull};
+ghost use Rattle.pc_engine.specs.Effect.{StoresOnly, is_full};
 ghost use Rattle.pc_engine.specs.Engine.{Asks, given_of};
 ghost use Rattle.pc_engine.specs.Stand.{stand_of};
 ghost use Rattle.pc_rebalance.specs.Apply.{Applies};
-ghost use Rattle.pc_rebalance.specs.Block.{next_place};
+ghost use Rattle.pc_rebalance.specs.Block.{AddsBlock, assigned_parts, next_place};
 ghost use Rattle.pc_rebalance.specs.Refusal.{IsFromOutside, MayDo};
+ghost use Rattle.pc_rebalance.specs.Stop.{IsOfPart, StopsAt};
 
 use crate::calls::perform;
 use pc_engine::{Engine, EngineFault};
@@ -46,6 +47,16 @@ pub fn apply<L: Link, T: Task>(
     ensures others { L.is_told engine.old.link ≡ true → StoresOnly (has_log (given_of T.outcome engine.old))
         (L.store engine.old.link) (L.store engine.new.link) }
 
+    // Only events of the act's block are added.
+    ensures adds { AddsBlock step.now.act engine.old.journal.events engine.new.journal.events }
+
+    // Where the link or a map refuses it, it stops at the first of its parts that is not held then.
+    // Where the journal is full, two more events would pass the limit.
+    ensures stops { let given = given_of T.outcome engine.old in
+        IfErr result (λ fault. IsOfPart fault → (p : ℕ) × StopsAt (L.is_told engine.old.link) given
+        (assigned_parts given engine.old.journal.events step.now.act)
+        (stand_of L.store L.faults engine.old) (stand_of L.store L.faults engine.new) fault p) }
+    ensures full { result ≡ Err JournalFull → is_full engine.new.journal.events 2 ≡ true }
     ensures cause { result ≡ Err (Failed LinkFailed) → HasRisen (L.faults engine.old.link)
         (L.faults engine.new.link) }
 

@@ -1,6 +1,6 @@
-//! That memory is found, which of the faults a step answers, and when a step is due.
+//! That memory is found, which of the faults a step answers, at which part, and when a step is due.
 
-use crate::{apply, due};
+use crate::{apply, assigned_parts, due, first_free};
 use pc_broker_log::BrokerLogs;
 use pc_cursor::Log;
 use pc_engine::{Engine, EngineFault};
@@ -29,25 +29,34 @@ const THREE_RECORDS: [u8; 91] = [
     0x14, 0x00, 0x00, 0x04, 0x02, 0x61, 0x06, 0x7A, 0x7A, 0x7A, 0x00,
 ];
 
-/// Acts over two parts, what each answers, and whether a step after one success is due then: no
-/// record succeeds, and the run is at rest while part 0 is not held. The link's seventh call fails,
-/// which is the fetch of part 1 after the first crash.
-const ACTS: [(Act, Result<(), EngineFault>, bool); 11] = [
-    (Act::Revoke(0), Err(EngineFault::NotHeld), true),
-    (Act::Assign(0), Ok(()), false),
-    (Act::Assign(1), Ok(()), false),
-    (Act::Revoke(0), Ok(()), true),
-    (Act::Assign(0), Ok(()), false),
-    (Act::Lose(1), Ok(()), false),
-    (Act::Assign(1), Ok(()), false),
+/// What an act answers, whether a step after one success is due then, and the first of the parts
+/// that it was to assign which is not held then.
+type Answer = (Result<(), EngineFault>, bool, Option<u32>);
+
+/// Acts over two parts, and their answers: no record succeeds, and the run is at rest while part 0 is
+/// not held. The link's seventh call fails, which is the fetch of part 1 after the first crash.
+const ACTS: [(Act, Answer); 11] = [
+    (Act::Revoke(0), (Err(EngineFault::NotHeld), true, None)),
+    (Act::Assign(0), (Ok(()), false, None)),
+    (Act::Assign(1), (Ok(()), false, None)),
+    (Act::Revoke(0), (Ok(()), true, None)),
+    (Act::Assign(0), (Ok(()), false, None)),
+    (Act::Lose(1), (Ok(()), false, None)),
+    (Act::Assign(1), (Ok(()), false, None)),
     (
         Act::Crash,
-        Err(EngineFault::Client(ClientFault::LinkFailed)),
-        false,
+        (
+            Err(EngineFault::Client(ClientFault::LinkFailed)),
+            false,
+            Some(1),
+        ),
     ),
-    (Act::Assign(1), Ok(()), false),
-    (Act::Crash, Ok(()), false),
-    (Act::Assign(2), Err(EngineFault::UnknownPart), false),
+    (Act::Assign(1), (Ok(()), false, None)),
+    (Act::Crash, (Ok(()), false, None)),
+    (
+        Act::Assign(2),
+        (Err(EngineFault::UnknownPart), false, Some(2)),
+    ),
 ];
 
 /// Their events, each with its part.
@@ -98,24 +107,31 @@ fn link(alloc: Global) -> Result<FailingLink<OffsetBroker>, AllocError> {
     }
 }
 
-/// What the acts answer over these logs, whether a step after one success is due then, and the
-/// journal that they leave.
-fn answers(
+/// What an act answers.
+fn answer(
     alloc: Global,
-    logs: &BrokerLogs<'_>,
-) -> Result<([(Result<(), EngineFault>, bool); 11], Journal), AllocError> {
+    engine: &mut Engine<'_, FailingLink<OffsetBroker>>,
+    act: Act,
+) -> Result<Answer, AllocError> {
+    let step = Step { count: 1, act };
+    let parts = assigned_parts(alloc, engine, act)?;
+    let result = apply(alloc, engine, &step);
+    Ok((
+        result,
+        due(engine, &step),
+        first_free(engine, parts.as_slice()),
+    ))
+}
+
+/// What the acts answer over these logs, and the journal that they leave.
+fn answers(alloc: Global, logs: &BrokerLogs<'_>) -> Result<([Answer; 11], Journal), AllocError> {
     let setup = Setup::with_defaults(alloc)?;
     let Ok(mut engine) = Engine::start(alloc, &setup, logs, link(alloc)?) else {
         return Err(AllocError);
     };
-    let mut answers = [(Ok(()), false); 11];
+    let mut answers = [(Ok(()), false, None); 11];
     for i in 0..11 {
-        let step = Step {
-            count: 1,
-            act: ACTS[i].0,
-        };
-        let answer = apply(alloc, &mut engine, &step);
-        answers[i] = (answer, due(&engine, &step));
+        answers[i] = answer(alloc, &mut engine, ACTS[i].0)?;
     }
     Ok((answers, engine.into_parts().0))
 }
@@ -125,8 +141,8 @@ fn a_refusal_ends_a_step(rt: HostRuntime) -> Result<(), Fail> {
     let logs = two_logs(rt.alloc())?;
     let (answers, journal) = answers(rt.alloc(), &logs)?;
     for i in 0..11 {
-        let (act, answer, is_due) = ACTS[i];
-        assert_eq!(rt; answers[i], (answer, is_due), "at {i}, {act:?}");
+        let (act, answer) = ACTS[i];
+        assert_eq!(rt; answers[i], answer, "at {i}, {act:?}");
     }
     assert_eq!(rt; journal.len(), 13);
     for i in 0..13 {
