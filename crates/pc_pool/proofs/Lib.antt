@@ -1,0 +1,9 @@
+pub mod KeepLemmas
+pub mod TakeLemmas
+pub mod BackLemmas
+pub mod StoreLemmas
+pub mod EndLemmas
+pub mod ControlLemmas
+pub mod BlockLemmas
+pub mod StepLemmas
+pub mod ReportLemmas

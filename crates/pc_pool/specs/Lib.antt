@@ -1,0 +1,4 @@
+pub mod Applied
+pub mod Ending
+pub mod Run
+pub mod Report
