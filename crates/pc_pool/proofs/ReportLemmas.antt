@@ -31,6 +31,7 @@ pub reports : {T : Type 0} (run : Heading) (told : Bool) (h : List Event) (store
     → In (kept_for store p) (may_store run.given h p))
     → IsReport run told h (Some inbox) returned store faults e
 reports run told h store faults used ended e mail inbox returned keeps is counts kept = record {
+  told_is = keeps.told_is;
   is_run = keeps.is_run;
   workers = keeps.workers;
   comes = counts.counted;
@@ -105,9 +106,10 @@ counts-begin mail inbox h empty own = record {
 }
 
 -- a run that did not begin
-pub unstarted-reports : {T : Type 0} (run : Heading) (told : Bool) → IsLegal run.given []
-    → IsReport {T = T} run told [] None 0 run.store run.faults NoMemory
-unstarted-reports run told legal = record {
+pub unstarted-reports : {T : Type 0} (run : Heading) (told : Bool) → told ≡ run.given.is_told
+    → IsLegal run.given [] → IsReport {T = T} run told [] None 0 run.store run.faults NoMemory
+unstarted-reports run told same legal = record {
+  told_is = same;
   is_run = record { legal = legal; follows = refl; paced = refl };
   workers = refl;
   comes = (refl, refl);

@@ -33,6 +33,7 @@ pub record LeavesStore (run : Heading) (h : List Event) (store : Broker) : Type 
 pub record IsReport {T : Type 0} (run : Heading) (told : Bool) (h : List Event)
     (inbox : Option (Receiving T)) (returned : ℕ) (store : Broker) (faults : ℕ) (ended : Ending)
     : Type 0 where
+  pub told_is : told ≡ run.given.is_told
   pub is_run : IsRun run.given run.steps h
   pub workers : list_all (λ w. nat_lt w run.workers) (dispatch_workers h) ≡ true
   pub comes : ComesFrom inbox returned h

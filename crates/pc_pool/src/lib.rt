@@ -17,3 +17,6 @@ mod worker;
 pub use ending::Ending;
 pub use pool::consume;
 pub use report::Report;
+
+#[cfg(test)]
+mod tests;

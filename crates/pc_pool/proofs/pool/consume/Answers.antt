@@ -59,7 +59,7 @@ returns-in-Err g c = record {
       (unstarted-reports (heading_at g.L.Link.store g.L.Link.faults c.args.link c.args.steps.now c.args.workers
       (given_by c.args.setup.now c.args.logs.now [] (g.L.Link.is_told c.args.link)
       (g.T.Task.outcome c.args.task.now) (kept_for (g.L.Link.store c.args.link))))
-      (g.L.Link.is_told c.args.link) c.with_task.ensures.legal);
+      (g.L.Link.is_told c.args.link) refl c.with_task.ensures.legal);
 }
 
 pub returns-in_default : goal.returns-in_default
@@ -76,5 +76,5 @@ returns-in_default g c = record {
       (unstarted-reports (heading_at g.L.Link.store g.L.Link.faults c.args.link c.args.steps.now c.args.workers
       (given_by c.args.setup.now c.args.logs.now [] (g.L.Link.is_told c.args.link)
       (g.T.Task.outcome c.args.task.now) (kept_for (g.L.Link.store c.args.link))))
-      (g.L.Link.is_told c.args.link) c.with_task.ensures.legal);
+      (g.L.Link.is_told c.args.link) refl c.with_task.ensures.legal);
 }
