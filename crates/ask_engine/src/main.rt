@@ -1,5 +1,5 @@
-//! ask_engine RECORDS ROUNDS: an engine over made-up logs polls all of their records and has some out,
-//! and is then asked everything that a run asks, so many times. `bench/questions` measures it.
+//! ask_engine RECORDS ROUNDS: an engine over made-up logs polls all of their records and has some
+//! out, and is then asked everything that a run asks, ROUNDS times. `bench/questions` measures it.
 #![tactic(auto)]
 
 use anyhow::bail;
@@ -89,7 +89,7 @@ fn fill(engine: &mut Core<'_>) -> Result<(), EngineFault> {
     Ok(())
 }
 
-/// Asks all questions of all parts so many times.
+/// Asks all questions of all parts, `rounds` times.
 fn ask(engine: &Core<'_>, rounds: u32) -> u64 {
     let mut answers = 0u64;
     for round in 0..rounds {

@@ -16,7 +16,7 @@ pub record AreEpochs (h : List Event) (epochs : List PartEpoch) : Type 0 where
 pub record AreSmall (epochs : List PartEpoch) : Type 0 where
   pub each : All (λ part. part.epoch < 2 ^ 64 - 1) epochs
 
--- this of a part that is one of so many, and None of another
+-- this of a part that is one of this many, and None of another
 abbrev pub of_part : {X : Type 0} → ℕ → ℕ → X → Option X
 of_part parts p x = if nat_lt p parts then Some x else None
 

@@ -38,7 +38,7 @@ impl Epochs {
     ghost use Rattle.pc_model.specs.Epochs.{epoch_of, is_held};
     ghost use Rattle.pc_assignment.specs.Epochs.{AreEpochs, AreSmall, assign_answer, drop_answer, of_part};
 
-    /// The epochs of so many parts before any event: each is 0, and none is held.
+    /// The epochs of this many parts before any event: each is 0, and none is held.
     pub fn new(alloc: Global, parts: u32) -> Result<Epochs, AllocError>
         ensures parts { IfOk result (λ epochs. length epochs ≡ parts) }
         ensures epochs { IfOk result (λ epochs. AreEpochs [] epochs) }

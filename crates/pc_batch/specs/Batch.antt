@@ -112,7 +112,7 @@ abbrev pub length_of : ℤ → Result ℕ BatchFault
 length_of (pos n) = if nat_lt n 49 then Err (BadLength (pos n)) else Ok (12 + n)
 length_of (negsuc n) = Err (BadLength (negsuc n))
 
--- so many bytes, from a place on
+-- this many bytes, from a place on
 abbrev pub whole_of : ℕ → List ℕ → ℕ → Result (List ℕ) BatchFault
 whole_of at bytes n = if nat_lt (length bytes) n then Err (Short at n) else Ok (take n bytes)
 
@@ -138,7 +138,7 @@ range_of (negsuc base) delta stamps = Err (OffsetRange (negsuc base) delta)
 unfoldable pub frame_of : List ℕ → Result Frame BatchFault
 frame_of bytes = range_of (base_offset bytes) (last_delta bytes) (times_in bytes)
 
--- the first record that is none, at its place: the eighth
+-- the first record that does not read, at its place: the eighth
 abbrev pub placed : ℕ → Result (List Record) (ℕ × RecordKind) → Result (List Record) BatchFault
 placed end (Ok records) = Ok records
 placed end (Err fault) = Err (BadRecord (end - fault.0) fault.1)

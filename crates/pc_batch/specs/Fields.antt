@@ -25,12 +25,12 @@ int_at bytes = or_kind Varint (varint_at bytes)
 abbrev pub long_at : List ℕ → Result (ℤ × List ℕ) RecordKind
 long_at bytes = or_kind Varint (varlong_at bytes)
 
--- so many bytes: a negative length and one past the end are two faults
+-- this many bytes: a negative length and one past the end are two faults
 abbrev pub sized_of : RecordKind → RecordKind → ℤ → List ℕ → Result (List ℕ × List ℕ) RecordKind
 sized_of negative outside (pos n) bytes = if nat_lt (length bytes) n then Err outside else Ok (take n bytes, drop n bytes)
 sized_of negative outside (negsuc n) bytes = Err negative
 
--- a length, and so many bytes
+-- a length, and as many bytes
 unfoldable pub sized_at : RecordKind → RecordKind → List ℕ → Result (List ℕ × List ℕ) RecordKind
 sized_at negative outside bytes = do
   n ← int_at bytes
@@ -42,7 +42,7 @@ nullable_of below (pos n) bytes = if nat_lt (length bytes) n then Err Past else 
 nullable_of below (negsuc zero) bytes = Ok (None, bytes)
 nullable_of below (negsuc (suc n)) bytes = Err below
 
--- a length, and so many bytes, or null
+-- a length, and as many bytes, or null
 unfoldable pub nullable_at : RecordKind → List ℕ → Result (Option (List ℕ) × List ℕ) RecordKind
 nullable_at below bytes = do
   n ← int_at bytes

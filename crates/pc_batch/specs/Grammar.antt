@@ -8,7 +8,7 @@ use Rattle.pc_batch.specs.declared.frame.Times.TheVariants as times
 use Rattle.pc_batch.specs.declared.frame.Frame.{Frame}
 use Rattle.pc_batch.specs.Record.{fits_64}
 
--- a length, and so many bytes
+-- a length, and as many bytes
 pub record IsSized (bytes part : List ℕ) : Type 0 where
   pub head : List ℕ
   pub len : IsVarint head (pos (length part))

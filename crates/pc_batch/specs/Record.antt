@@ -50,7 +50,7 @@ body_at frame least bytes = do
   headers ← all_headers_at value.1
   Ok (record { offset = offset; time = time; key = key.0; value = value.0; headers = headers })
 
--- a length, and a record of so many bytes
+-- a length, and a record of this many bytes
 unfoldable pub record_at : Frame → ℕ → List ℕ → Result (Record × List ℕ) RecordKind
 record_at frame least bytes = do
   part ← sized_at Length Length bytes

@@ -13,8 +13,8 @@ abbrev pub told_at : {A : Type 0} → ℕ → Result A RecordKind → Result A (
 told_at left (Ok x) = Ok x
 told_at left (Err kind) = Err (left, kind)
 
--- All records, or the first that is none. Each takes a byte at least, so that as many turns suffice as
--- there are bytes.
+-- All records, or the first that does not read. Each takes a byte at least, so that as many turns
+-- suffice as there are bytes.
 unfoldable pub records_at : ℕ → Frame → ℕ → List ℕ → Result (List Record) (ℕ × RecordKind)
 records_at zero frame least bytes = Ok []
 records_at (suc turns) frame least [] = Ok []
@@ -34,7 +34,7 @@ abbrev pub and_on : Result (Record × List ℕ) RecordKind → (Record × List �
 and_on (Ok x) more = x.0 ∷ more x
 and_on (Err kind) more = []
 
--- the records up to the first that is none
+-- the records up to the first that does not read
 unfoldable pub front_records : ℕ → Frame → ℕ → List ℕ → List Record
 front_records zero frame least bytes = []
 front_records (suc turns) frame least bytes = and_on (record_at frame least bytes) (λ x. front_records turns frame (x.0.offset + 1) x.1)

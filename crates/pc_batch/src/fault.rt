@@ -67,7 +67,7 @@ pub enum BatchFault {
     Compressed(u8),
     /// The base offset or the last offset delta is negative, or their sum passes 2^63 - 2.
     OffsetRange { base: i64, delta: i32 },
-    /// The record whose length field is at `place` is none.
+    /// The record whose length field is at `place` does not read.
     BadRecord { place: u64, kind: RecordKind },
     /// The header has another number of records than were found.
     Count { header: i32, found: u32 },

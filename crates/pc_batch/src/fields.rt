@@ -47,7 +47,7 @@ fn part_of<'a>(
     reader.part(len as usize).map_err(|_| past)
 }
 
-/// A length, and so many bytes.
+/// A length, and as many bytes.
 #[tactic(auto, unfolding(crate::specs::Fields::sized_at))]
 pub(crate) fn sized<'a>(
     reader: &mut Reader<'a>,
@@ -62,7 +62,7 @@ pub(crate) fn sized<'a>(
     part_of(reader, len, negative, past)
 }
 
-/// A length, and so many bytes. The length -1 is null.
+/// A length, and as many bytes. The length -1 is null.
 #[tactic(auto, unfolding(crate::specs::Fields::nullable_at))]
 pub(crate) fn nullable<'a>(
     reader: &mut Reader<'a>,

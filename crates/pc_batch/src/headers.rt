@@ -27,7 +27,7 @@ fn header<'a>(reader: &mut Reader<'a>) -> Result<(&'a [u8], Option<&'a [u8]>), R
     Ok((key, value))
 }
 
-/// Passes over so many headers.
+/// Passes over this many headers.
 fn skip(reader: &mut Reader<'_>, count: u32) -> Result<(), RecordKind>
     ensures value { IfOk result (λ _. after_headers count reader.old.bytes ≡ Ok reader.new.bytes) }
     ensures fault { IfErr result (λ kind. after_headers count reader.old.bytes ≡ Err kind) }
@@ -52,7 +52,7 @@ impl<'a> Headers<'a> {
         }
     }
 
-    /// The count of headers, and so many headers up to the end of the bytes, each of them checked.
+    /// The count of headers, and as many headers up to the end of the bytes, each of them checked.
     pub(crate) fn of_rest(reader: &mut Reader<'a>) -> Result<Headers<'a>, RecordKind>
         ensures value { IfOk result (λ h. all_headers_at reader.old.bytes ≡ Ok (headers_left h)) }
         ensures fault { IfErr result (λ kind. all_headers_at reader.old.bytes ≡ Err kind) }

@@ -14,10 +14,10 @@
 //! ```
 //!
 //! (Kafka's documentation, "Record Batch"). `batchLength` counts the bytes after it, and `crc` is
-//! the CRC-32C of the bytes from `attributes` on. A record is its length (varint) and so many bytes:
-//! attributes (int8), timestampDelta (varlong), offsetDelta (varint), the key and the value (each a
-//! varint of the length, -1 for null, and the bytes), the count of headers (varint), and for each
-//! header its key (a length and bytes) and its value (as a record's).
+//! the CRC-32C of the bytes from `attributes` on. A record is its length (varint) and as many
+//! bytes: attributes (int8), timestampDelta (varlong), offsetDelta (varint), the key and the value
+//! (each a varint of the length, -1 for null, and the bytes), the count of headers (varint), and
+//! for each header its key (a length and bytes) and its value (as a record's).
 #![tactic(auto)]
 
 mod batch;

@@ -156,7 +156,7 @@ pub record IsWithin (base last : ℕ) (first : ℤ) (r : NewRecord) : Type 0 whe
   pub within : r.offset ≤ last
   pub time : IsTrue (fits_64 (r.time -ℤ first))
 
--- the call answers what is due, unless memory ran out
+-- the call answers what is due, unless it ran out of memory
 abbrev pub Answers : {V : Type 0} → (V → List ℕ) → Result (List ℕ) WriteFault → Result V WriteFault → Type 0
 Answers items due (Ok made) = due ≡ Ok (items made)
 Answers items due (Err fault) = (fault ≡ NoMemory) ⊎ (due ≡ Err fault)

@@ -3,7 +3,7 @@ use Rattle.std.specs.Prelude.{◌≡◌, ℕ, ◌/◌, ◌%◌, ◌^◌, ◌==�
 use Rattle.std.specs.List.{range_with_len}
 use Rattle.pc_model.specs.MapSpelling.{bit_bytes}
 
--- bytes that end with so many bits get a bit so many times more
+-- bytes that end with this many bits get a bit n times more
 abbrev pub AppendsBits : ℕ → Bool → ℕ → List ℕ → List ℕ → Type 0
 AppendsBits place bit n old new = (head : List ℕ) (bits : List Bool) → length bits ≡ place
     → old ≡ head ++ bit_bytes bits → new ≡ head ++ bit_bytes (bits ++ replicate n bit)

@@ -25,7 +25,7 @@ log_at logs part = option_flatten (slice_get logs part)
 abbrev pub record_total : List (Option (List Record)) → ℕ
 record_total logs = sum_by (λ log. length (unwrap_or log [])) logs
 
--- why a log of so many records is not taken for the part, the first cause that applies
+-- why a log of this many records is not taken for the part, the first cause that applies
 abbrev pub add_refusal : List (Option (List Record)) → ℕ → ℕ → Option AddFault
 add_refusal logs part records =
     if nat_le MAX_PARTS part then Some UnknownPart
@@ -41,7 +41,7 @@ with_log logs part log = slice_set (logs ++ replicate (part + 1 - length logs) N
 abbrev pub upto : ℕ → List Record → List Record
 upto last records = filter (λ r. nat_le r.offset last) records
 
--- the first records, at most so many, before the first that is above an offset
+-- the first records, at most this many, before the first that is above an offset
 abbrev pub first_upto : ℕ → ℕ → List Record → List Record
 first_upto most last records = take most (take_while (λ r. nat_le r.offset last) records)
 
@@ -60,8 +60,8 @@ abbrev pub GivesPolled : PolledView → Option RecordRef → PolledView → Type
 GivesPolled old given new = YieldsFirstBy plain (λ p. p.left) old given new
     × IsFirstOf old.log given new.log
 
--- a table of logs with so many records: parts are below the limit, the last place has a log, and each
--- log's offsets rise
+-- a table of logs with this many records: parts are below the limit, the last place has a log, and
+-- each log's offsets rise
 pub record IsTable (logs : List (Option (List Record))) (records : ℕ) : Type 0 where
   pub counted : records ≡ record_total logs
   pub few : records ≤ MAX_RECORDS

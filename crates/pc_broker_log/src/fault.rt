@@ -16,7 +16,7 @@ pub enum AddFault {
     TwiceGiven,
     /// All logs together would have more than 1,000,000 records.
     TooManyRecords,
-    /// Memory is wanting.
+    /// Out of memory.
     NoMemory,
 }
 

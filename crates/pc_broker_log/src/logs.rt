@@ -37,7 +37,7 @@ impl<'a> Model for BrokerLogs<'a> {
     ghost invariant = { λ b. IsTable (logs_of b.logs.items) b.records };
 }
 
-// At least so many places, of which the new ones have no log.
+// At least this many places; the new ones have no log.
 fn grow<'a>(logs: &mut Vec<Option<Log<'a>>>, len: usize) -> Result<(), AllocError>
     ensures ok { OnOk result (logs.new.items
         ≡ logs.old.items ++ replicate (len - length logs.old.items) None) }
@@ -61,7 +61,7 @@ impl<'a> BrokerLogs<'a> {
         }
     }
 
-    // Why a log of so many records is not taken, but for want of memory.
+    // Why a log of this many records is not taken, but when out of memory.
     fn may_add(&self, part: u32, records: u64) -> Result<(), AddFault>
         ensures refused { (fault : AddFault) →
             add_refusal self.now part records ≡ Some fault → result ≡ Err fault }

@@ -5,12 +5,12 @@ use Rattle.std.specs.Prelude.{ℕ, ◌+◌, ◌*◌, ◌/◌, nat_le, nat_lt, if
 abbrev pub sized : ℕ × List ℕ → ℕ × ℕ
 sized text = (text.0, length text.1)
 
--- how many characters the letter and so many bytes have in base64 with padding
+-- how many characters the letter and this many bytes have in base64 with padding
 abbrev pub character_count : ℕ → ℕ
 character_count bytes = 4 * ((bytes + 3) / 3)
 
--- a letter with the size of its text, where its encoding can hold the bits in so many bytes and the
--- text has at most 4,294,967,294 characters
+-- a letter with the size of its text, where its encoding can hold the bits in this many bytes and
+-- the text has at most 4,294,967,294 characters
 abbrev pub text_size : ℕ → Option ℕ → Option (ℕ × ℕ)
 text_size letter None = None
 text_size letter (Some bytes) = if nat_le (character_count bytes) 4294967294

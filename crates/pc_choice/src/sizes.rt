@@ -26,8 +26,8 @@ pub fn shortest(bits: &Bits) -> Option<(u8, u32)>
     )
 }
 
-/// The same of bits of which only the lengths of the four encodings are known, in bytes without the
-/// letter. None where an encoding cannot hold them.
+/// The same, from nothing but the lengths of the four encodings in bytes, without the letter. None
+/// where an encoding cannot hold them.
 pub fn shortest_of(
     bitset: Option<u64>,
     runlength: Option<u64>,
@@ -45,7 +45,7 @@ pub fn shortest_of(
     smaller(with_bitset, size_of(RUN_LENGTH_2, runlength2))
 }
 
-/// How many characters the letter and so many bytes have in base64.
+/// How many characters the letter and this many bytes have in base64.
 fn size_of(letter: u8, bytes: Option<u64>) -> Option<(u8, u32)>
     ensures { result ≡ text_size letter bytes }
 {

@@ -24,13 +24,13 @@ abbrev pub map_refusal : BadMapRule → Commit → Option MapFault
 map_refusal Redo c = None
 map_refusal Refuse c = reading_fault (map_reading c.position c.map)
 
--- what a fault of the reading makes of a resumption; only want of memory does not ask the rule
+-- what a fault of the reading makes of a resumption; only `NoMemory` does not ask the rule
 abbrev pub refusal_of : BadMapRule → MapFault → Option ResumeFault
 refusal_of rule NoMemory = Some ResumeNoMemory
 refusal_of Redo fault = None
 refusal_of Refuse fault = Some (BadMap fault)
 
--- the records from the position on of which the map says something
+-- the records from the position on that the map says something about
 abbrev pub mapped_records : Commit → List Record → List Record
 mapped_records c records = filter (λ r. nat_lt r.offset (map_end c)) (filter (λ r. nat_le c.position r.offset) records)
 

@@ -1,4 +1,4 @@
-//! The commit of a part as it stands.
+//! The commit of a part in its present state.
 
 ghost use Rattle.std.specs.Prelude.{◌≡◌, ◌<◌, ◌≤◌, ◌^◌, ℕ, [], List, length, IfOk, IsOk, Some};
 ghost use Rattle.pc_model.specs.Marks.{Mark, bits_at, commit_at, position_at};

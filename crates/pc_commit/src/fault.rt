@@ -10,10 +10,10 @@ use thiserror::Error;
 /// Why the state of a stored commit is not made.
 #[derive(Clone, Copy, Debug, PartialEq, Eq, Error)]
 pub enum ResumeFault {
-    /// The stored map does not read, and the rule refuses that. Never the fault's want of memory.
+    /// The stored map does not read, and the rule refuses that. Never the fault's `NoMemory`.
     #[error("the stored map does not read: {0}")]
     BadMap(MapFault),
-    /// Memory ran out.
+    /// Out of memory.
     #[error("out of memory")]
     NoMemory,
 }

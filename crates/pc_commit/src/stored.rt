@@ -69,7 +69,8 @@ fn refusal(rule: BadMapRule, fault: MapFault) -> Option<ResumeFault>
     }
 }
 
-// The offsets of the records of which the map says something, each with whether it is passed over.
+// The offsets of the records that the map says something about, each with whether it is passed
+// over.
 fn inherited(
     alloc: Global,
     log: &Log<'_>,

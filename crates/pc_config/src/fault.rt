@@ -82,7 +82,7 @@ pub(crate) enum KeyFault {
     Beyond(Key),
 }
 
-/// The fault as callers see it, or that memory ran out.
+/// The fault as callers see it, or `NoMemory`.
 pub(crate) fn public_fault(alloc: Global, fault: KeyFault) -> ConfigFault
     ensures { ¬ (result ≡ NoMemory) → result ≡ fault_of fault }
 {
@@ -121,7 +121,7 @@ fn joined(alloc: Global, prefix: &str, word: &str) -> Result<KeyText, AllocError
     KeyText::from_str(alloc, name.as_str())
 }
 
-/// A key that its table does not have, or that memory ran out.
+/// A key that its table does not have, or `NoMemory`.
 pub(crate) fn unknown_key(alloc: Global, prefix: &str, word: &str) -> ConfigFault
     ensures { ¬ (result ≡ NoMemory) → result ≡ UnknownKey (prefix.now ++ word.now) }
 {

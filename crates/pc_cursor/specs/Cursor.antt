@@ -29,12 +29,12 @@ GivesUpto last old None new =
 GivesUpto last old (Some r) new =
     (old.left ≡ plain r ∷ new.left) × (r.offset ≤ last) × (new.all ≡ old.all)
 
--- what goes on behind a batch; nothing where there is none
+-- what goes on after a batch; nothing where there is none
 abbrev pub and_on : Result Placed BatchFault → (Placed → List Record) → List Record
 and_on (Ok b) more = more b
 and_on (Err f) more = []
 
--- the records of the batches from a place on, up to the first that is none
+-- the records of the batches from a place on, up to the first that does not read
 unfoldable pub front_from : ℕ → List ℕ → ℕ → List Record
 front_from zero log place = []
 front_from (suc turns) log place = and_on (batch_from log place)

@@ -4,7 +4,7 @@ use Rattle.pc_batch.specs.Batch.{Placed, given_by}
 use Rattle.pc_cursor.specs.declared.entry.Entry.{Entry}
 use Rattle.pc_cursor.specs.Log.{batches_of, IsChecked}
 
--- the entries of batches of which the first begins at a place, behind so many records
+-- the entries of batches, the first at a place, after this many records
 abbrev pub entries_from : ℕ → ℕ → List Placed → List Entry
 entries_from place before [] = []
 entries_from place before (b ∷ bs) = record

@@ -90,12 +90,12 @@ pub record IsChecked (log : List ℕ) : Type 0 where
 
 -- ---- what a check answers
 
--- a fault is the log's first, unless memory was wanting
+-- a fault is the log's first, unless it is out of memory
 abbrev pub Tells : CheckFault → Result (List Placed) LogFault → Type 0
 Tells (Bad f) read = read ≡ Err f
 Tells NoMemory read = Unit {0}
 
--- these batches, unless memory was wanting
+-- these batches, unless it is out of memory
 abbrev pub GivesLog : Result (List Placed) CheckFault → List Contents → Type 0
 GivesLog (Ok log) batches = contents_of log ≡ batches
 GivesLog (Err e) batches = e ≡ NoMemory

@@ -39,7 +39,7 @@ pub struct LogFault {
 pub enum CheckFault {
     /// The bytes are no log.
     Bad(LogFault),
-    /// Memory is wanting.
+    /// Out of memory.
     NoMemory,
 }
 

@@ -66,7 +66,7 @@ fn next(bytes: &[u8], place: u64, before: Option<u64>) -> Result<Batch<'_>, LogF
     }
 }
 
-// The records of the last batch that has any, of a log with so many of them.
+// The records of the last batch that has any, of a log with this many of them.
 fn last_records<'a>(bytes: &'a [u8], entries: &[Entry], count: u64) -> Records<'a>
     requires index { IsIndex bytes.now entries.now }
     requires counted { count ≡ length (all_records bytes.now) }
@@ -86,7 +86,7 @@ fn last_records<'a>(bytes: &'a [u8], entries: &[Entry], count: u64) -> Records<'
 impl<'a> Log<'a> {
     /// Reads the whole log: every batch and every record of it.
     pub fn check(alloc: Global, bytes: &'a [u8]) -> Result<Log<'a>, CheckFault>
-        // What is read is a log, and a log is read unless memory is wanting.
+        // What is read is a log, and a log is read unless it is out of memory.
         ensures found { IfOk result (λ log. IsLog bytes.now (contents_of log)) }
         ensures only { (batches : List Contents) →
             IsLog bytes.now batches → GivesLog result batches }

@@ -46,12 +46,12 @@ pub record Step (A : Type 0) : Type 0 where
 abbrev pub refuses : {A : Type 0} → EngineFault → Step A
 refuses fault = record { answer = Err fault; events = [] }
 
--- the call does the step: its answer and its events; for want of memory it does nothing
+-- the call does the step: its answer and its events; when out of memory it does nothing
 abbrev pub Does : {A : Type 0} → Result A EngineFault → Step A → List Event → List Event → Type 0
 Does (Err NoMemory) step before after = after ≡ before
 Does result step before after = (result ≡ step.answer) × (after ≡ step.events ++ before)
 
--- whether so many more events, with those kept for the jobs that are out, pass the limit
+-- whether this many more events, with those kept for the jobs that are out, pass the limit
 abbrev pub is_full : List Event → ℕ → Bool
 is_full h more = nat_lt MAX_EVENTS (length h + length (open_jobs h) + more)
 
@@ -182,7 +182,7 @@ take_step given h worker = take_after given h worker (take_refusal h)
 
 -- ---- lose, crash, revoke
 
--- the first refusal of a call on a held part that adds so many events
+-- the first refusal of a call on a held part that adds this many events
 abbrev pub held_refusal : Given → List Event → ℕ → ℕ → Option EngineFault
 held_refusal given h p more =
     if has_ended h then Some Closed

@@ -56,7 +56,7 @@ abbrev pub starts_by : List Event → (ℕ → Commit) → ℕ → List Start
 starts_by h kept parts = map (λ p. start_at (λ q. unwrap_or (first_assigned h q) (kept q)) p)
     (range_with_len 0 parts)
 
--- the starts of an engine over so many logs: none where its link does not tell its store
+-- the starts of an engine over this many logs: none where its link does not tell its store
 abbrev pub starts_of : List Event → Bool → (ℕ → Commit) → ℕ → List Start
 starts_of h told kept parts = if told then starts_by h kept parts else []
 

@@ -22,9 +22,9 @@ impl<'a, L: Link, T: Task> Engine<'a, L, T> {
         self.state.clock
     }
 
-    /// Moves the clock on to a number of milliseconds, and answers true and adds Tick where it is
-    /// above that of the last tick. Else it answers false and adds nothing. Takes no memory where the
-    /// journal has a spare place.
+    /// Moves the clock on to a number of milliseconds, and returns true and adds Tick where it is
+    /// above that of the last tick. Else it returns false and adds nothing. Takes no memory where
+    /// the journal has a spare place.
     ///
     /// Refuses with `Closed`, and where an event is to be added with `JournalFull` or `NoMemory`, the
     /// first that applies.

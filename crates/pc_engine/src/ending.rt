@@ -77,8 +77,8 @@ impl<'a, L: Link, T: Task> Engine<'a, L, T> {
         Ok(())
     }
 
-    /// Closes the engine as it stands: adds Closed, and the engine has ended. Takes no memory where the
-    /// journal has a spare place.
+    /// Closes the engine, whatever is left: adds Closed, and the engine has ended. Takes no memory
+    /// where the journal has a spare place.
     ///
     /// Refuses with `Closed`, `JournalFull` or `NoMemory`, the first that applies.
     pub fn close(&mut self) -> Result<(), EngineFault>

@@ -71,8 +71,8 @@ impl<'a, L: Link> Engine<'a, L, RuleTask> {
     ghost use Rattle.pc_offset_client.specs.Client.{kept_for};
     ghost use Rattle.pc_engine.specs.Engine.{given_by, given_of};
 
-    /// An engine over these logs, without an event, which has the function of the setup's rules run.
-    /// The error is want of memory and gives the link back.
+    /// An engine over these logs, without an event, which has the function of the setup's rules
+    /// run. The error is out of memory and gives the link back.
     pub fn start(
         alloc: Global,
         setup: &'a Setup,
@@ -124,8 +124,8 @@ impl<'a, L: Link, T: Task> Engine<'a, L, T> {
     ghost use Rattle.pc_engine.specs.Effect.{Settles, poll_refusal, poll_step, settle_step, spare, take_step, taken};
     ghost use Rattle.pc_engine.specs.Stall.{NoneStalls};
 
-    /// An engine over these logs, without an event, which has this function run. The error is want of
-    /// memory and gives the link back.
+    /// An engine over these logs, without an event, which has this function run. The error is out
+    /// of memory and gives the link back.
     pub fn with_task(
         alloc: Global,
         setup: &'a Setup,
@@ -253,12 +253,12 @@ impl<'a, L: Link, T: Task> Engine<'a, L, T> {
         self.store(part)
     }
 
-    /// Polls the next records of the part, at most `max`, and adds Poll. Answers how many; 0, without
-    /// an event, exactly where none is left.
+    /// Polls the next records of the part, at most `max`, and adds Poll. Returns how many; 0,
+    /// without an event, exactly where none is left.
     ///
-    /// Refuses with `Closed`, `UnknownPart`, `NotHeld`, `Draining`; then answers 0; then refuses with
-    /// `Pressed` where the part is blocked and the next record is above its greatest complete offset,
-    /// `JournalFull` or `NoMemory`.
+    /// Refuses with `Closed`, `UnknownPart`, `NotHeld`, `Draining`; then returns 0; then refuses
+    /// with `Pressed` where the part is blocked and the next record is above its greatest complete
+    /// offset, `JournalFull` or `NoMemory`.
     pub fn poll(&mut self, part: u32, max: u32) -> Result<u32, EngineFault>
         requires some { 0 < max }
         requires few { max ≤ MAX_RECORDS }
@@ -356,8 +356,8 @@ impl<'a, L: Link, T: Task> Engine<'a, L, T> {
         !self.state.ledger.ended && done.task.is_same(self.task) && self.state.expects(done)
     }
 
-    /// Makes room for `n` events beyond those kept for the jobs that are out. Fails only where there
-    /// is no such room yet and memory runs out.
+    /// Makes room for `n` events beyond those kept for the jobs that are out. Fails only where
+    /// there is no such room yet and it is out of memory.
     pub fn reserve(&mut self, n: u32) -> Result<(), AllocError>
         ensures enough { n ≤ spare self.old.journal → IsOk result }
         ensures room { OnOk result (n ≤ spare self.new.journal) }
@@ -476,7 +476,7 @@ impl<'a, L: Link, T: Task> Engine<'a, L, T> {
         Ok(resume(self.alloc, log, stored, self.state.setup.settings.bad_map)?)
     }
 
-    // The commit of a held part as it stands.
+    // The commit of a held part in its present state.
     fn commit_of(&self, part: u32) -> Result<SizedCommit, AllocError>
         requires held { is_held self.now.journal.events part ≡ true }
         requires known { has_log (given_of T.outcome self.now) part ≡ true }
@@ -563,7 +563,7 @@ impl<'a, L: Link, T: Task> Engine<'a, L, T> {
         self.flows()
     }
 
-    // Whether so many more events are within the limit, at most 2.
+    // Whether this many more events are within the limit, at most 2.
     pub(crate) fn has_room(&self, more: u64) -> Result<(), EngineFault>
         requires { more ≤ 2 }
         ensures { result ≡ (if is_full self.now.journal.events more
@@ -577,7 +577,7 @@ impl<'a, L: Link, T: Task> Engine<'a, L, T> {
     }
 }
 
-/// Why a commit failed, unless memory ran out.
+/// Why a commit failed, unless it ran out of memory.
 fn lasting(fault: ClientFault) -> Result<ClientFault, AllocError>
     ensures lasts { IfOk result (λ f. (f ≡ fault) × (fault ≡ Forgot → ⊥)) }
     ensures memory { OnErr result (fault ≡ Forgot) }

@@ -77,7 +77,7 @@ impl<'a, L: Link, T: Task> Engine<'a, L, T> {
     }
 
     /// Gives the part back: has its commit stored, as `commit` does, and adds Commit or
-    /// CommitFailed, and then Revoke with the part's epoch, which is over. Answers why the commit
+    /// CommitFailed, and then Revoke with the part's epoch, which is over. Returns why the commit
     /// failed, if it did.
     ///
     /// Refuses with `Closed`, `UnknownPart`, `NotHeld`, `JournalFull` or `NoMemory`, the first that
@@ -109,7 +109,7 @@ impl<'a, L: Link, T: Task> Engine<'a, L, T> {
         Ok(failed)
     }
 
-    // Why a call is refused that gives the part back and adds so many events, at most 2.
+    // Why a call is refused that gives the part back and adds this many events, at most 2.
     fn may_release(&self, part: u32, events: u64) -> Result<(), EngineFault>
         requires { events ≤ 2 }
         ensures { result ≡ refused_by

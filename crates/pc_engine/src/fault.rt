@@ -40,12 +40,13 @@ pub enum EngineFault {
         stored: u64,
         position: u64,
     },
-    /// The link's client failed, never for want of memory. After a failed commit the event of that
-    /// stands in the journal, and the store may have the commit.
+    /// The link's client failed, never because it is out of memory. After a failed commit the event
+    /// of that stands in the journal, and the store may have the commit.
     Client(ClientFault),
-    /// The stored map does not read, and the setup refuses such maps. Never for want of memory.
+    /// The stored map does not read, and the setup refuses such maps. Never because it is out of
+    /// memory.
     BadMap(MapFault),
-    /// Memory ran out.
+    /// Out of memory.
     NoMemory,
 }
 

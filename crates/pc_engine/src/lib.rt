@@ -1,4 +1,4 @@
-//! The core: each call adds the lawful event, or answers the first refusal and adds nothing.
+//! The core: each call adds the lawful event, or returns the first refusal and adds nothing.
 //!
 //! The history in an engine is legal by its type.
 #![tactic(auto)]

@@ -111,12 +111,12 @@ answered name (Bytes bytes) = Ok bytes
 answered name Failed = Err (status.ReadFault name)
 answered name TooLong = Err (status.Limit FileBytes MAX_FILE_BYTES)
 
--- bytes behind so many others, unless they are more together than all logs may have
+-- bytes after this many others, unless they are more together than all logs may have
 abbrev pub within : ℕ → List ℕ → Result (List ℕ) Status
 within before bytes = if nat_lt MAX_LOG_BYTES (before + length bytes)
     then Err (status.Limit LogBytes MAX_LOG_BYTES) else Ok bytes
 
--- the bytes of a log behind others that have so many, or the status that its read ends with
+-- the bytes of a log after others that have this many, or the status that its read ends with
 abbrev pub log_answered : ℕ → FileRead → Result FileText Status
 log_answered before read =
     do
@@ -124,7 +124,7 @@ log_answered before read =
       fitting ← within before bytes
       Ok (record { name = read.name; bytes = fitting })
 
--- the bytes of logs behind others that have so many, or the status of the first that has one
+-- the bytes of logs after others that have this many, or the status of the first that has one
 abbrev pub logs_answered : ℕ → List FileRead → Result (List FileText) Status
 logs_answered before [] = Ok []
 logs_answered before (read ∷ reads) =
@@ -133,7 +133,7 @@ logs_answered before (read ∷ reads) =
       texts ← logs_answered (before + length text.bytes) reads
       Ok (text ∷ texts)
 
--- the bytes of the configuration, of which there are none where no file is named
+-- the bytes of the configuration, none where no file is named
 abbrev pub config_answered : Option (List ℕ) → ReadAnswer → Result (List ℕ) Status
 config_answered name answer = answered (unwrap_or name []) answer
 
@@ -181,7 +181,7 @@ run_words_answered words reads =
       command ← ok_or (command_of words) status.Usage
       run_answered command reads
 
--- ---- what comes of a file, unless memory was wanting
+-- ---- what comes of a file, unless it is out of memory
 
 -- the bytes or the status of one read
 pub record IsFromFile (name : List ℕ) (told : Option (List ℕ)) (before after : ℕ)
@@ -197,7 +197,7 @@ pub record IsFromConfig (name : Option (List ℕ)) (told : List ℕ → Option (
   pub is_answer : IsConfigAnswer name told before after answer
   pub read : config_answered name answer ≡ got
 
--- the same of the read of a log behind others that have so many bytes
+-- the same of the read of a log after others that have this many bytes
 pub record IsFromLog (name : List ℕ) (told : Option (List ℕ)) (before after used : ℕ)
     (got : Result FileText Status) : Type 0 where
   pub answer : ReadAnswer

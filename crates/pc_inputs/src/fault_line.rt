@@ -13,8 +13,8 @@ use pc_print::{put_line, put_map_line};
 use pc_script::ScriptKind;
 use std::alloc::{AllocError, Global};
 
-/// Appends the fault line of a status, with its line feed, and nothing where it has none. Where
-/// memory is wanting `out` is as before.
+/// Appends the fault line of a status, with its line feed, and nothing where it has none. Out of
+/// memory, `out` is as before.
 #[tactic(auto, unfolding(crate::specs::Status::fault_line))]
 pub fn put_fault(alloc: Global, out: &mut Vec<u8>, status: &Status) -> Result<(), AllocError>
     ensures ok { OnOk result (out.new.items ≡ out.old.items ++ fault_line status.now) }

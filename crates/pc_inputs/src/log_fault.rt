@@ -17,7 +17,7 @@ pub(crate) struct LogPlace<'a> {
     pub(crate) place: u64,
 }
 
-/// Appends the line of a log's fault, with its line feed. Where memory is wanting `out` is as
+/// Appends the line of a log's fault, with its line feed. Out of memory, `out` is as
 /// before.
 pub(crate) fn put_log_fault(
     out: &mut Vec<u8>,

@@ -70,7 +70,7 @@ pub enum Status {
         part: u32,
         fault: MapFault,
     },
-    /// Memory ran out.
+    /// Out of memory.
     NoMemory,
 }
 

@@ -16,14 +16,14 @@ CommitsUpTo (Committed q x text size ∷ h) p position =
     (q ≡ p → x ≤ position) × CommitsUpTo h p position
 CommitsUpTo (v ∷ h) p position = CommitsUpTo h p position
 
--- this event, if it is an assignment or a stored commit, does not fall behind an earlier commit of
+-- this event, if it is an assignment or a stored commit, does not begin below an earlier commit of
 -- its part
 abbrev pub RisesAt : Event → List Event → Type 0
 RisesAt (Assign p epoch position text) h = CommitsUpTo h p position
 RisesAt (Committed p position text size) h = CommitsUpTo h p position
 RisesAt _ h = Unit {0}
 
--- the positions of each part's stored commits never go down, and no assignment falls behind an
+-- the positions of each part's stored commits never go down, and no assignment begins below an
 -- earlier commit
 abbrev pub PositionsRise : List Event → Type 0
 PositionsRise [] = Unit {0}

@@ -61,7 +61,7 @@ pub fn stale_changes_nothing()
         → next_record given (Stale ticket ∷ h) ≡ next_record given h }
 {}
 
-/// The positions of a part's commits never go down, and no assignment falls behind one of them.
+/// The positions of a part's commits never go down, and no assignment begins below one of them.
 pub fn positions_rise()
     ensures { (given : Given) (h : List Event) → given.is_told ≡ true → IsLegal given h →
         PositionsRise h }

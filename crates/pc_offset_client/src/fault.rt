@@ -24,7 +24,7 @@ pub enum ClientFault {
     /// the number of partitions, and the partitions.
     #[error("the reply has {got} where {asked} was asked")]
     OtherReply { asked: i32, got: i32 },
-    /// Memory ran out. Nothing was stored then.
+    /// Out of memory. Nothing was stored then.
     #[error("out of memory")]
     NoMemory,
 }

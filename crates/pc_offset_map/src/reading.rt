@@ -19,7 +19,7 @@ const LAST_END: u64 = (1 << 63) - 1;
 
 /// Reads a map's text, whose first bit is that of the offset `base`. The empty text is no map.
 ///
-/// The first fault in the order of `MapFault` is answered.
+/// The first fault in the order of `MapFault` is returned.
 pub fn read_map(alloc: Global, base: u64, text: &[u8]) -> Result<Option<OffsetMap>, MapFault>
     ensures bits { IfOk result
         (λ map. map_reading base text.now ≡ Ok (option_map (λ m. m.bits) map)) }

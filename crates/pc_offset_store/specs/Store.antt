@@ -43,7 +43,7 @@ accepted_item b r name item = if int_eq (item_code b r name item) NO_ERROR
 abbrev pub accepted_of : Broker → CommitRequest → Topic CommitItem → List Stored
 accepted_of b r topic = flat_map (accepted_item b r topic.name) topic.items
 
--- these codes and commits were put behind those that stood in the verdict
+-- these codes and commits were put after those that stood in the verdict
 pub record IsDecided (codes : List ℤ) (accepted : List Stored) (old new : Verdict) : Type 0 where
   pub codes_behind : new.codes.items ≡ old.codes.items ++ codes
   pub accepted_behind : map stored_of new.accepted.items

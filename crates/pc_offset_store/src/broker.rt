@@ -62,7 +62,7 @@ impl Model for OffsetBroker {
 }
 
 impl OffsetBroker {
-    /// A broker of a topic with so many parts, which stores nothing. The only error is want of
+    /// A broker of a topic with this many parts, which stores nothing. The only error is out of
     /// memory.
     pub fn new(alloc: Global, topic: &str, parts: u32) -> Result<OffsetBroker, AllocError>
         ensures { IfOk result (λ b. b ≡ record
@@ -107,7 +107,7 @@ impl OffsetBroker {
     }
 
     /// Forms a group: it has this generation, which is 1 at least, and these members. The only
-    /// error is want of memory.
+    /// error is out of memory.
     pub fn form(
         &mut self,
         group: &str,

@@ -18,7 +18,7 @@ pub struct GroupCommit {
 }
 
 impl GroupCommit {
-    /// The commit with copies of these texts. The only error is want of memory.
+    /// The commit with copies of these texts. The only error is out of memory.
     pub fn of(
         alloc: Global,
         group: &str,

@@ -15,7 +15,7 @@ use pc_model::api::NO_ERROR;
 use pc_offset_wire::{FetchEntry, FetchRequest, PartItems};
 use std::alloc::{AllocError, Global};
 
-/// The entries of a request, one for each of its parts. The only error is want of memory.
+/// The entries of a request, one for each of its parts. The only error is out of memory.
 pub fn of<'a>(
     alloc: Global,
     broker: &'a OffsetBroker,

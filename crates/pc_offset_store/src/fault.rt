@@ -21,7 +21,7 @@ pub enum BrokerFault {
     /// The reply would have more than 2^31 - 1 bytes after its size.
     #[error("the reply is too long")]
     TooLong,
-    /// Memory ran out.
+    /// Out of memory.
     #[error("out of memory")]
     NoMemory,
 }

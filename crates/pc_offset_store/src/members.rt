@@ -25,7 +25,7 @@ impl Model for MemberId {
 }
 
 impl MemberId {
-    /// A copy of the text. The only error is want of memory.
+    /// A copy of the text. The only error is out of memory.
     pub fn from_str(alloc: Global, text: &str) -> Result<MemberId, AllocError>
         ensures { IfOk result (λ m. m ≡ text.now) }
     {
@@ -51,7 +51,7 @@ pub struct Group {
 }
 
 impl Group {
-    /// The group with copies of these texts. The only error is want of memory.
+    /// The group with copies of these texts. The only error is out of memory.
     pub fn of(
         alloc: Global,
         name: &str,

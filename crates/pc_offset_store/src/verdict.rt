@@ -23,7 +23,7 @@ pub struct Verdict {
     pub accepted: Vec<GroupCommit>,
 }
 
-/// The verdict on a request. The only error is want of memory.
+/// The verdict on a request. The only error is out of memory.
 pub fn of(
     alloc: Global,
     broker: &OffsetBroker,

@@ -4,19 +4,19 @@ use Rattle.pc_model.specs.declared.wire_fault.WireFault.{WireFault}
 use Rattle.pc_model.specs.MessageReading.{◌>>=◌, items_at}
 use Rattle.pc_offset_wire.specs.declared.items.Items.{Items}
 
--- the bytes after so many items
+-- the bytes after this many items
 unfoldable pub after_items : {A : Type 0} → (List ℕ → Result (A × List ℕ) WireFault) → ℕ → List ℕ
     → Result (List ℕ) WireFault
 after_items item_at n bytes = do
   found ← items_at item_at n bytes
   Ok found.1
 
--- the value, and what goes on behind it; nothing where there is no value
+-- the value, and what goes on after it; nothing where there is no value
 abbrev pub and_on : {A : Type 0} → Result (A × List ℕ) WireFault → (List ℕ → List A) → List A
 and_on (Ok x) more = x.0 ∷ more x.1
 and_on (Err fault) more = []
 
--- the items up to the first that is none, at most so many
+-- the items up to the first that does not read, at most this many
 unfoldable pub front_items : {A : Type 0} → (List ℕ → Result (A × List ℕ) WireFault) → ℕ → List ℕ
     → List A
 front_items item_at zero bytes = []

@@ -1,4 +1,4 @@
--- What is written: texts put one behind the other, and the requests by their arguments.
+-- What is written: texts put one after the other, and the requests by their arguments.
 use Rattle.std.specs.Prelude.{◌≡◌, ℕ, ℤ, pos, ◌≤ℤ◌, List, ◌++◌, map, All, Option, Result, Ok, Err, FitsSigned}
 use Rattle.std.specs.Int.{w32, w64}
 use Rattle.pc_model.specs.Messages as messages
@@ -10,7 +10,7 @@ use Rattle.pc_offset_wire.specs.declared.commit_writing.CommitTopic.{CommitTopic
 use Rattle.pc_offset_wire.specs.declared.fetch_writing.FetchTopic.{FetchTopic}
 use Rattle.pc_offset_wire.specs.Views.{plain_commit_item}
 
--- The text was put behind what stood there, and the fact holds; or the fact does not hold; or
+-- The text was put after what stood there, and the fact holds; or the fact does not hold; or
 -- memory ran out.
 abbrev pub Puts : List ℕ → Type 0 → List ℕ → List ℕ → Result (Unit {0}) WireWriteFault → Type 0
 Puts text Fits old new (Ok done) = (new ≡ old ++ text) × Fits

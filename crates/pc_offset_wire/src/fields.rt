@@ -63,7 +63,7 @@ fn length_at(bytes: &[u8]) -> Result<(usize, &[u8]), WireFault>
     Ok((len as usize, rest))
 }
 
-/// A string of so many bytes.
+/// A string of this many bytes.
 #[tactic(auto, unfolding(pc_model::specs::MessageReading::text_at))]
 fn text(len: usize, bytes: &[u8]) -> Result<(&str, &[u8]), WireFault>
     ensures { Gives (λ x. (x.0.now, x.1.now)) result (text_at len bytes.now) }
@@ -78,7 +78,7 @@ fn text(len: usize, bytes: &[u8]) -> Result<(&str, &[u8]), WireFault>
     }
 }
 
-/// A string: its length, and so many bytes.
+/// A string: its length, and as many bytes.
 #[tactic(auto, unfolding(pc_model::specs::MessageReading::string_at))]
 pub(crate) fn string(bytes: &[u8]) -> Result<(&str, &[u8]), WireFault>
     ensures { Gives (λ x. (x.0.now, x.1.now)) result (string_at bytes.now) }

@@ -1,4 +1,4 @@
-//! What all frames have: a size, and so many bytes; and the header of the requests.
+//! What all frames have: a size, and as many bytes; and the header of the requests.
 
 ghost use Rattle.std.specs.Prelude.{◌≡◌, Ok, length};
 ghost use Rattle.std.specs.Option.{option_copied};

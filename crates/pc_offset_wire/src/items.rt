@@ -48,7 +48,7 @@ impl<'a, T> Items<'a, T> {
     }
 }
 
-/// Passes over so many items.
+/// Passes over this many items.
 fn skip<'a, T: WireItem<'a>>(count: u32, bytes: &'a [u8]) -> Result<&'a [u8], WireFault>
     ensures { Gives (λ rest. rest.now) result (after_items T.at count bytes.now) }
 {
@@ -60,7 +60,7 @@ fn skip<'a, T: WireItem<'a>>(count: u32, bytes: &'a [u8]) -> Result<&'a [u8], Wi
     Ok(rest)
 }
 
-/// An array: a count, and so many items, each of them checked.
+/// An array: a count, and as many items, each of them checked.
 pub(crate) fn array<'a, T: WireItem<'a>>(
     bytes: &'a [u8],
 ) -> Result<(Items<'a, T>, &'a [u8]), WireFault>

@@ -2,7 +2,7 @@
 //! are read in place, exactly where the bytes are of the grammar, and are written in their one
 //! spelling. Reading takes no memory.
 //!
-//! All numbers are big-endian. A frame is its size (int32) and so many bytes. A string is its
+//! All numbers are big-endian. A frame is its size (int32) and as many bytes. A string is its
 //! length (int16) and its bytes, in UTF-8; a nullable string has the length -1 for null. An array
 //! is its count (int32) and its items. A request begins with the header, version 1:
 //!

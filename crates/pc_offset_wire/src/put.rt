@@ -1,4 +1,4 @@
-//! The fields of a frame, put one behind the other.
+//! The fields of a frame, put one after the other.
 
 ghost use Rattle.std.specs.Prelude.{◌≡◌, ◌++◌, ◌<◌, ◌^◌, ℕ, List, All, pos, length, map, OnOk, IfOk, Ok, Err};
 ghost use Rattle.std.specs.Int.{w16, w32, w64};
@@ -105,7 +105,7 @@ pub(crate) fn put_nullable(out: &mut Vec<u8>, text: Option<&str>) -> Result<(), 
     }
 }
 
-/// Puts so many items, one behind the other.
+/// Puts this many items, one after the other.
 fn put_items<T: PutItem>(out: &mut Vec<u8>, items: &[T]) -> Result<(), WireWriteFault>
     requires { All T.IsPutable items.now }
     ensures { Puts (flat_map T.spelled (map T.plain items.now))

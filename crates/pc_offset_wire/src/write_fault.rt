@@ -12,7 +12,7 @@ use std::fmt;
 pub enum WireWriteFault {
     /// A text passes 32,767 bytes, or the frame has more than 2^31 - 1 bytes after its size.
     TooLong,
-    /// Memory is wanting.
+    /// Out of memory.
     NoMemory,
 }
 

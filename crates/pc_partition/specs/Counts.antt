@@ -6,7 +6,7 @@ use Rattle.pc_partition.specs.declared.counts.Counts.{Counts}
 use Rattle.pc_partition.specs.Runs.{offsets_in}
 
 -- from a place up to an end the lengths of the 1 bits before each run of 0 bits, of that run, and
--- of the 1 bits behind the last
+-- of the 1 bits after the last
 abbrev pub lengths_after : ℕ → ℕ → List (ℕ × ℕ) → List ℕ
 lengths_after place end [] = if nat_lt place end then (end - place) ∷ [] else []
 lengths_after place end (run ∷ runs) = (run.0 - place) ∷ run.1
@@ -21,7 +21,7 @@ lengths_upto end (run ∷ runs) = run.1 ∷ lengths_after (run.0 + run.1) end ru
 abbrev pub long_of : ℕ → List ℕ → ℕ
 long_of limit lengths = count_by (λ n. nat_le limit n) lengths
 
--- the counts of runs of 0 bits, and of 1 bits between them and behind them up to an end
+-- the counts of runs of 0 bits, and of 1 bits between them and after them up to an end
 abbrev pub counts_of : ℕ → List (ℕ × ℕ) → Counts
 counts_of end runs = record {
   runs = length runs;
@@ -58,13 +58,13 @@ abbrev pub start_of : ℕ → List (ℕ × ℕ) → ℕ
 start_of end [] = end
 start_of end (run ∷ runs) = run.0
 
--- the counts of the runs up to an end that stand behind the first ones and before the last ones
+-- the counts of the runs up to an end that stand after the first ones and before the last ones
 abbrev pub IsPart : ℕ → ℕ → ℕ → List (ℕ × ℕ) → Counts → Type 0
 IsPart first behind end runs counts = (front middle back : List (ℕ × ℕ))
     → runs ≡ front ++ (middle ++ back) → first ≡ length front → behind ≡ length back
     → counts ≡ counts_of (start_of end back) middle
 
--- the number of runs up to high, of which so many first ones and last ones can be left out
+-- the number of runs up to high, of which this many first ones and last ones can be left out
 pub record HasPart (first behind : ℕ) (high : Option ℕ) (runs : List (ℕ × ℕ)) (count : ℕ)
     : Type 0 where
   pub in_order : AreRuns 0 (end_of high) (runs_upto high runs)

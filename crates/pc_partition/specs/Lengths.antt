@@ -28,7 +28,7 @@ bitset_by_count width limit count = if nat_lt count limit then Some (width + (co
 abbrev pub runs_by_count : ℕ → ℕ → ℕ → Option ℕ
 runs_by_count width runs long = if long == 0 then Some (width * (2 * runs)) else None
 
--- the lengths for so many bits, by the counts of their runs
+-- the lengths for this many bits, by the counts of their runs
 abbrev pub lengths_by_counts : ℕ → Counts → Lengths
 lengths_by_counts count counts = record {
   bitset = bitset_by_count 2 (2 ^ 15) count;

@@ -27,7 +27,7 @@ pub struct CountedRuns {
 }
 
 impl CountedRuns {
-    /// No runs, with room for so many.
+    /// No runs, with room for this many.
     pub fn with_capacity(alloc: Global, room: usize) -> Result<CountedRuns, AllocError>
         ensures runs { IfOk result (λ runs. runs.list.items ≡ []) }
         ensures high { IfOk result (λ runs. runs.high ≡ None) }
@@ -94,7 +94,7 @@ impl CountedRuns {
         self.counts.runs = runs::count_upto(self.list.as_slice(), high);
     }
 
-    // The counts of the runs from an index on, but for so many of the last up to the greatest
+    // The counts of the runs from an index on, but for this many of the last up to the greatest
     // complete offset.
     fn part(&self, first: usize, behind: usize) -> Counts
         requires { HasPart first behind self.now.high self.now.list.items self.now.counts.runs }

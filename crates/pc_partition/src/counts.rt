@@ -1,4 +1,4 @@
-//! How many runs there are, and how many of them, and of the 1 bits between and behind them, are
+//! How many runs there are, and how many of them, and of the 1 bits between and after them, are
 //! long.
 
 ghost use Rattle.std.specs.Prelude.{◌≡◌, ◌+◌, ◌-◌, ◌^◌, ◌<◌, ◌≤◌, [], drop, length, nat_le, if◌then◌else◌};
@@ -11,7 +11,7 @@ pub const LIMIT_1: u64 = 1 << 15;
 /// Below it a number of four bytes has its top bit 0.
 pub const LIMIT_2: u64 = 1 << 31;
 
-/// Numbers of runs of 0 bits, and of the 1 bits between them and behind them.
+/// Numbers of runs of 0 bits, and of the 1 bits between them and after them.
 #[derive(Clone, Copy, Debug)]
 pub struct Counts {
     /// The runs of 0 bits. There are as many of 1 bits.
@@ -46,7 +46,7 @@ impl Counts {
         self.long_2 = self.long_2 - old.long_2 + new.long_2;
     }
 
-    /// Of runs up to an end, the counts of those from an index on, but for so many of the last.
+    /// Of runs up to an end, the counts of those from an index on, but for this many of the last.
     pub fn of_part(runs: &[(u64, u64)], end: u64, first: usize, behind: usize) -> Counts
         requires in_order { AreRuns 0 end runs.now }
         requires small { end ≤ 2 ^ 63 }
@@ -74,7 +74,7 @@ fn start_at(runs: &[(u64, u64)], at: usize, end: u64) -> u64
     }
 }
 
-// How many runs, and 1 bits between and behind them, are not shorter than the limit.
+// How many runs, and 1 bits between and after them, are not shorter than the limit.
 fn count_long(runs: &[(u64, u64)], end: u64, limit: u64) -> usize
     requires in_order { AreRuns 0 end runs.now }
     requires small { end ≤ 2 ^ 63 }

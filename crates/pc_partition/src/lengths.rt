@@ -5,7 +5,7 @@ ghost use Rattle.pc_partition.specs.Lengths.{bitset_by_count, lengths_by_counts,
 
 use crate::counts::{Counts, LIMIT_1, LIMIT_2};
 
-/// How many bytes each encoding has behind its letter. None where it cannot hold the bits.
+/// How many bytes each encoding has after its letter. None where it cannot hold the bits.
 #[derive(Clone, Copy, Debug, PartialEq, Eq)]
 pub struct Lengths {
     /// BitSet, version 1.
@@ -18,7 +18,7 @@ pub struct Lengths {
     pub runlength2: Option<u64>,
 }
 
-/// The lengths for so many bits, of which the runs are counted.
+/// The lengths for this many bits, of which the runs are counted.
 pub fn of_counts(count: u64, counts: &Counts) -> Lengths
     requires { counts.now.runs ≤ 2 ^ 59 }
     ensures { result ≡ lengths_by_counts count counts.now }
@@ -31,7 +31,7 @@ pub fn of_counts(count: u64, counts: &Counts) -> Lengths
     }
 }
 
-// The number of so many bits, and the bits.
+// The number of this many bits, and the bits.
 fn bitset(count: u64, width: u64, limit: u64) -> Option<u64>
     requires { width ≤ 4 }
     ensures { result ≡ bitset_by_count width limit count }
@@ -42,7 +42,7 @@ fn bitset(count: u64, width: u64, limit: u64) -> Option<u64>
     Some(width + count.div_ceil(8))
 }
 
-// Two numbers for a run: its length, and that of the 1 bits behind it. None of them may be long.
+// Two numbers for a run: its length, and that of the 1 bits after it. None of them may be long.
 fn run_length(runs: usize, long: usize, width: u64) -> Option<u64>
     requires few { runs ≤ 2 ^ 59 }
     requires width { width ≤ 4 }

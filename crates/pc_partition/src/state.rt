@@ -56,7 +56,7 @@ impl Model for PartitionState {
 }
 
 impl PartitionState {
-    /// The state at an assignment: of the offsets of which its map says something, whether each is
+    /// The state at an assignment: for each offset that its map says something about, whether it is
     /// complete. None was polled yet.
     pub fn start(
         alloc: Global,
@@ -80,7 +80,7 @@ impl PartitionState {
         Ok(state)
     }
 
-    /// Makes room for polling `n` more offsets. Where memory runs out, all is as before.
+    /// Makes room for polling `n` more offsets. Out of memory, all is as before.
     pub fn reserve(&mut self, n: u32) -> Result<(), AllocError>
         ensures window { self.new.window ≡ self.old.window }
         ensures room { OnOk result (n ≤ self.new.room) }
@@ -90,7 +90,7 @@ impl PartitionState {
         self.runs.list.reserve(room)
     }
 
-    /// Polls the offsets, which are new where they are not known. Where memory runs out, the same
+    /// Polls the offsets, which are new where they are not known. Out of memory, the same
     /// is known and polled as before; where room was reserved for them, it does not.
     pub fn polled(&mut self, offsets: &[u64]) -> Result<(), AllocError>
         requires rises { RisesFrom self.old.window.polled_to offsets.now }
@@ -152,7 +152,7 @@ impl PartitionState {
         !runs::contains(self.runs.list.as_slice(), offset)
     }
 
-    /// Whether an offset is incomplete, or new, which it is behind the known ones. By a binary
+    /// Whether an offset is incomplete, or new, which it is after the known ones. By a binary
     /// search.
     pub fn is_open(&self, offset: u64) -> bool
         ensures open { (begin n : ℕ) (marks : List Mark)

@@ -61,7 +61,7 @@ pub record LineStep : Type 0 where
   pub hand : List PlainJob
   pub notice : Option Notice
 
--- a refusal is remarked; that the commit of a revocation failed is none
+-- a refusal is remarked; that the commit of a revocation failed is not remarked
 abbrev pub call_notice : {A : Type 0} → Result A EngineFault → Option Notice
 call_notice (Ok done) = None
 call_notice (Err fault) = Some (Refused fault)

@@ -20,7 +20,7 @@ use pc_task::{Job, RuleTask, Task};
 use pc_world::Link;
 use std::alloc::{AllocError, Global};
 
-/// Makes the call that a line asks for, and answers what is to be remarked of it. Fails when out of
+/// Makes the call that a line asks for, and returns what is to be remarked of it. Fails when out of
 /// memory.
 pub(crate) fn call<'a, L: Link>(
     alloc: Global,
@@ -115,7 +115,7 @@ fn poll<L: Link>(
     }
 }
 
-/// What is to be remarked of a poll of so many records.
+/// What is to be remarked of a poll of this many records.
 fn polled(count: u32) -> Option<Notice>
     ensures { result ≡ poll_notice (Ok count) }
 {
@@ -296,7 +296,7 @@ fn done<L: Link>(engine: &mut Engine<'_, L>) -> Result<Option<Notice>, AllocErro
     answered(engine.finish())
 }
 
-/// Closes the engine as it stands. The jobs in hand stay there.
+/// Closes the engine, whatever is left. The jobs in hand stay there.
 fn close<L: Link>(engine: &mut Engine<'_, L>) -> Result<Option<Notice>, AllocError>
     ensures effect { (hand : Hand) → Calls (L.is_told engine.old.link) (given_by_rules engine.old)
         engine.old.journal.events Close
@@ -309,7 +309,7 @@ fn close<L: Link>(engine: &mut Engine<'_, L>) -> Result<Option<Notice>, AllocErr
     answered(engine.close())
 }
 
-/// What is to be remarked of a call that answers no more than whether it was refused.
+/// What is to be remarked of a call that only returns whether it was refused.
 fn answered(answer: Result<(), EngineFault>) -> Result<Option<Notice>, AllocError>
     ensures { MatchResult result
         (λ notice. (answer ≡ Err NoMemory → ⊥) × (notice ≡ call_notice answer))

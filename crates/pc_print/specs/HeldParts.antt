@@ -17,12 +17,12 @@ pub record PartsView : Type 0 where
   pub parts : List (Option Assigned)
   pub crashes : ℕ
 
--- whether the part is held after so many crashes
+-- whether the part is held after this many crashes
 abbrev pub is_held_after : ℕ → Option Assigned → Bool
 is_held_after crashes part = option_map_or (λ a. option_map_or (λ n. n == crashes) a.after false)
     part false
 
--- of a part this is kept after a history with so many crashes
+-- of a part this is kept after a history with this many crashes
 pub record IsKept (h : List Event) (p crashes : ℕ) (part : Option Assigned) : Type 0 where
   pub first : first_assigned h p ≡ option_map (λ a. plain_first a.first) part
   pub held : is_held h p ≡ is_held_after crashes part

@@ -6,7 +6,7 @@ use Rattle.pc_lines.specs.Escape.{IsBytes, escaped_of}
 use Rattle.pc_model.specs.declared.event.Event.{Event}
 use Rattle.pc_model.specs.declared.event.Event.TheVariants.{Assign, Poll, Dispatch, Success, Failure, Stale, Commit, CommitFailed, Revoke, Lost, Crash, Tick, Drain, Done, Closed}
 
--- bytes behind an equals sign, escaped
+-- bytes after an equals sign, escaped
 abbrev pub marked : List ℕ → List ℕ
 marked bytes = 61 ∷ escaped_of bytes
 
@@ -14,7 +14,7 @@ marked bytes = 61 ∷ escaped_of bytes
 abbrev pub named : List ℕ → ℕ → List (List ℕ)
 named name n = name ∷ decimal n ∷ []
 
--- the words of a commit behind the first
+-- the words of a commit after the first
 abbrev pub commit_words : ℕ → ℕ → List ℕ → ℕ → List (List ℕ)
 commit_words part position map size =
     (decimal part ∷ named (codes "at") position)
@@ -90,7 +90,7 @@ IsEvent Closed = ⊤
 abbrev pub AreEvents : List Event → Type 0
 AreEvents events = AllByRecursion IsEvent events
 
--- the text itself, or with a line feed behind its last line
+-- the text itself, or with a line feed after its last line
 abbrev pub IsEnded : List ℕ → List ℕ → Type 0
 IsEnded text ended = (ended ≡ text) ⊎ (ended ≡ text ++ 10 ∷ [])
 

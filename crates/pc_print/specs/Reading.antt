@@ -19,7 +19,7 @@ infixl 10 ◌>>=◌
 abbrev pub ◌>>=◌ : {A B : Type 0} → Option A → (A → Option B) → Option B
 o >>= f = option_and_then f o
 
--- what a function returned, seen by view, is this, unless memory was wanting
+-- what a function returned, seen by view, is this, unless it is out of memory
 abbrev pub Reads : {X Y : Type 0} → (X → Y) → Result X LineFault → Option Y → Type 0
 Reads view (Ok x) read = read ≡ Some (view x)
 Reads view (Err Bad) read = read ≡ None
@@ -78,7 +78,7 @@ map_at words = do
   text ← if_text found.0
   Some (text, found.1)
 
--- ---- the words behind the first
+-- ---- the words after the first
 
 unfoldable pub assign_at : Words → Option (Event × Words)
 assign_at words = do
@@ -176,7 +176,7 @@ event_word_of text =
     else (if bytes_eq text (codes "closed") then Some word.Closed
     else None))))))))))))))
 
--- the event of a first word and the words behind it, with what is left
+-- the event of a first word and the words after it, with what is left
 unfoldable pub behind_word : EventWord → Words → Option (Event × Words)
 behind_word word.Assign words = assign_at words
 behind_word word.Poll words = poll_at words
@@ -215,20 +215,20 @@ abbrev pub then_events : ℕ → Option Event → (Event → Result (List Event)
 then_events n None others = Err n
 then_events n (Some event) others = others event
 
--- the events of these lines over those before, or the number of the first line that is none's;
+-- the events of these lines over those before, or the number of the first line that is no event's;
 -- the first of these lines has the number n
 unfoldable pub events_over : List Event → ℕ → List (List ℕ) → Result (List Event) ℕ
 events_over before n [] = Ok before
 events_over before n (line ∷ lines) =
     then_events n (event_of line) (λ event. events_over (event ∷ before) (n + 1) lines)
 
--- what the reader of a line of this number answered is this, unless memory was wanting
+-- what the reader of a line of this number answered is this, unless it is out of memory
 abbrev pub ReadsEvent : ℕ → Result Event JournalTextFault → Option Event → Type 0
 ReadsEvent n (Ok event) read = read ≡ Some event
 ReadsEvent n (Err (text.Bad line)) read = (line ≡ n) × (read ≡ None)
 ReadsEvent n (Err text.NoMemory) read = Unit {0}
 
--- what the reader of a text answered is this, unless memory was wanting
+-- what the reader of a text answered is this, unless it is out of memory
 abbrev pub ReadsHistory : Result Journal JournalTextFault → Result (List Event) ℕ → Type 0
 ReadsHistory (Ok journal) read = read ≡ Ok journal.events
 ReadsHistory (Err (text.Bad line)) read = read ≡ Err line

@@ -1,5 +1,5 @@
 -- The summary of a run: of each part that is held at the end the records that it was to process,
--- with the function's answers, and the position behind them.
+-- with the function's answers, and the position after them.
 use Rattle.std.specs.Prelude.{ℕ, ◌+◌, not, nat_le, List, [], ◌∷◌, ◌++◌, length, Option, None, codes, filter, unwrap_or}
 use Rattle.std.specs.Fmt.{decimal}
 use Rattle.std.specs.List.{flat_map, last_or, range_with_len}

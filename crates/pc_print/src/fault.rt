@@ -12,7 +12,7 @@ use std::fmt;
 pub enum JournalTextFault {
     /// The first line that is no event's; lines are numbered from 1.
     Bad { line: u64 },
-    /// Memory was wanting.
+    /// Out of memory.
     NoMemory,
 }
 

@@ -102,7 +102,7 @@ impl<'a> Fields<'a> {
         self.large()
     }
 
-    /// The bytes of an escaped text behind an equals sign.
+    /// The bytes of an escaped text after an equals sign.
     #[tactic(auto, unfolding(crate::specs::Reading::bytes_at))]
     pub(crate) fn bytes(&mut self, alloc: Global) -> Result<Vec<u8>, LineFault>
         ensures { Reads (λ bytes. (bytes.items, self.new)) result (bytes_at self.old) }
@@ -149,7 +149,7 @@ fn place_of_space(line: &[u8]) -> Option<usize>
     line.iter().position(|b| *b == b' ')
 }
 
-/// The first word, and what stands behind the space after it, where there is one.
+/// The first word, and what stands after the space that follows it, where there is one.
 fn cut(line: &[u8]) -> (&[u8], Option<&[u8]>)
     ensures { slice_split is_space line.now ≡ result.0.now ∷ fields_of result.1 }
 {

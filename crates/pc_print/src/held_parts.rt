@@ -44,7 +44,7 @@ impl<'a> Model for HeldParts<'a> {
 impl<'a> HeldParts<'a> {
     ghost use Rattle.pc_print.specs.HeldParts.{AreKept, plain_first};
 
-    /// What the journal says of so many parts.
+    /// What the journal says of this many parts.
     pub(crate) fn of(
         alloc: Global,
         parts: u32,

@@ -12,7 +12,7 @@ use std::alloc::AllocError;
 pub(crate) enum LineFault {
     /// It is no event's line.
     Bad,
-    /// Memory was wanting.
+    /// Out of memory.
     NoMemory,
 }
 

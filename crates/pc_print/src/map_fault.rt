@@ -10,8 +10,8 @@ use crate::word::put_line;
 use pc_model::MapFault;
 use std::alloc::AllocError;
 
-/// Appends a line of a name, two more words, and the words of what is wrong with a map. Where
-/// memory is wanting `out` is as before.
+/// Appends a line of a name, two more words, and the words of what is wrong with a map. Out of
+/// memory, `out` is as before.
 pub fn put_map_line<'a>(
     out: &mut Vec<u8>,
     first: &'a [u8],

@@ -23,7 +23,7 @@ pub(crate) struct Passed {
 impl Passed {
     ghost use Rattle.pc_print.specs.Passed.{IsReadOf, is_over};
 
-    /// Reads the map of a commit. The only error is want of memory.
+    /// Reads the map of a commit. The only error is out of memory.
     pub(crate) fn by(alloc: Global, commit: &First<'_>) -> Result<Passed, AllocError>
         ensures { IfOk result (IsReadOf (plain_first commit.now)) }
     {
@@ -63,7 +63,7 @@ fn read(alloc: Global, commit: &First<'_>) -> Result<Option<OffsetMap>, AllocErr
     }
 }
 
-/// Fails where the fault is that memory ran out.
+/// Fails where the fault is out of memory.
 fn not_for_memory(fault: MapFault) -> Result<(), AllocError>
     ensures { OnOk result (¬ (fault ≡ NoMemory)) }
 {

@@ -9,7 +9,7 @@ use crate::word::put_line;
 use pc_model::{Answer, Event, MapText};
 use std::alloc::AllocError;
 
-/// Appends the line of an event, with its line feed. Where memory is wanting `out` is as before.
+/// Appends the line of an event, with its line feed. Out of memory, `out` is as before.
 #[tactic(auto, unfolding(crate::specs::Line::line_of))]
 pub fn put_event(out: &mut Vec<u8>, event: &Event) -> Result<(), AllocError>
     ensures ok { OnOk result (out.new.items ≡ out.old.items ++ line_of event.now) }

@@ -24,7 +24,7 @@ use std::alloc::{AllocError, Global};
 /// end, in rising order, a line for each record that the part's first assignment does not pass
 /// over, with the function's answer, and a line for the part's end.
 ///
-/// The only error is want of memory, after which `out` is as before.
+/// The only error is out of memory, after which `out` is as before.
 pub fn put_summary(
     alloc: Global,
     out: &mut Vec<u8>,
@@ -44,7 +44,7 @@ pub fn put_summary(
     put
 }
 
-/// As `put_summary`, but where memory is wanting more bytes may stand behind those of before.
+/// As `put_summary`, but when out of memory more bytes may stand after those of before.
 fn put_parts(
     alloc: Global,
     out: &mut Vec<u8>,
@@ -65,7 +65,7 @@ fn put_parts(
     Ok(())
 }
 
-/// Appends the lines of a part. Where memory is wanting more bytes may stand behind those of
+/// Appends the lines of a part. Out of memory, more bytes may stand after those of
 /// before.
 #[tactic(auto, unfolding(crate::specs::Summary::part_summary))]
 fn put_part(
@@ -86,8 +86,8 @@ fn put_part(
 }
 
 /// Appends the lines of the part's records that are not passed over, and gives the offset after the
-/// last record from the commit's position on, or that position where there is none. Where memory is
-/// wanting more bytes may stand behind those of before.
+/// last record from the commit's position on, or that position where there is none. Out of memory,
+/// more bytes may stand after those of before.
 fn put_log(
     alloc: Global,
     out: &mut Vec<u8>,
@@ -136,7 +136,7 @@ fn put_records(
     Ok(end)
 }
 
-/// Appends the line of a record. Where memory is wanting `out` is as before.
+/// Appends the line of a record. Out of memory, `out` is as before.
 fn put_record(
     alloc: Global,
     out: &mut Vec<u8>,

@@ -17,13 +17,13 @@ pub enum Word<'a> {
     Number(u64),
     /// The decimal of a number and a colon.
     Label(u64),
-    /// The decimal of a number, behind a hyphen where it is negative.
+    /// The decimal of a number, after a hyphen where it is negative.
     Signed(i64),
-    /// The escaped text of bytes behind an equals sign.
+    /// The escaped text of bytes after an equals sign.
     Marked(&'a [u8]),
 }
 
-/// Appends a line of these words, the first of which is a name. Where memory is wanting `out` is as
+/// Appends a line of these words, the first of which is a name. Out of memory, `out` is as
 /// before.
 pub fn put_line(out: &mut Vec<u8>, first: &[u8], others: &[Word<'_>]) -> Result<(), AllocError>
     ensures ok { OnOk result (out.new.items
@@ -38,7 +38,7 @@ pub fn put_line(out: &mut Vec<u8>, first: &[u8], others: &[Word<'_>]) -> Result<
     put
 }
 
-/// As `put_line`, but where memory is wanting more bytes may stand behind those of before.
+/// As `put_line`, but when out of memory more bytes may stand after those of before.
 fn put_words(out: &mut Vec<u8>, first: &[u8], others: &[Word<'_>]) -> Result<(), AllocError>
     ensures ok { OnOk result (out.new.items
         ≡ out.old.items ++ (spaced (first.now ∷ map word_text others.now) ++ 10 ∷ [])) }

@@ -24,7 +24,7 @@ use pc_task::Task;
 use pc_world::Link;
 use std::alloc::Global;
 
-/// Whether the time of the step has come: so many records have succeeded, or the run is at rest.
+/// Whether the time of the step has come: this many records have succeeded, or the run is at rest.
 /// Takes no memory.
 pub fn due<L: Link, T: Task>(engine: &Engine<'_, L, T>, step: &Step) -> bool
     ensures { result

@@ -12,7 +12,7 @@ use std::cmp::Reverse;
 use std::collections::BinaryHeap;
 use std::marker::Model;
 
-/// Offsets, of which the least is known.
+/// Offsets whose least is known.
 ///
 /// An offset that is taken out stays where it is and is noted beside it, until both are the least.
 #[derive(Drop)]
@@ -51,7 +51,7 @@ impl Offsets {
         }
     }
 
-    /// Makes room for `n` more. Where memory runs out, the same are there.
+    /// Makes room for `n` more. Out of memory, the same are there.
     pub fn reserve(&mut self, n: u32) -> Result<(), AllocError>
         ensures room { OnOk result (n ≤ self.new.room) }
         ensures kept { self.old.room ≤ self.new.room }

@@ -22,8 +22,8 @@ pub struct Retry {
     pub offset: u64,
 }
 
-/// A queue of records that wait, of which the least by time, part and offset comes first. Of each
-/// part the least offset is known.
+/// A queue of records that wait. The least by time, part and offset comes first, and the least
+/// offset of each part is known.
 #[derive(Drop)]
 pub struct RetryQueue {
     alloc: Global,
@@ -61,7 +61,7 @@ impl RetryQueue {
         }
     }
 
-    /// Makes room for `n` more. Where memory runs out, the same ones wait.
+    /// Makes room for `n` more. Out of memory, the same ones wait.
     pub fn reserve(&mut self, n: u32) -> Result<(), AllocError>
         ensures room { OnOk result (n ≤ self.new.room) }
         ensures kept { self.old.room ≤ self.new.room }
@@ -71,7 +71,7 @@ impl RetryQueue {
         self.heap.reserve(n as usize)
     }
 
-    /// Makes room for `n` more of the part. Where memory runs out, the same ones wait.
+    /// Makes room for `n` more of the part. Out of memory, the same ones wait.
     pub fn reserve_part(&mut self, part: u32, n: u32) -> Result<(), AllocError>
         ensures room { OnOk result (n ≤ room_of self.new part) }
         ensures kept { self.new.room ≡ self.old.room }

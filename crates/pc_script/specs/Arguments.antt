@@ -1,4 +1,4 @@
--- The arguments behind the first word of a script's line, with the first fault.
+-- The arguments after the first word of a script's line, with the first fault.
 use Rattle.std.specs.Prelude.{ℕ, Bool, true, false, ◌≡◌, ◌&&◌, ◌-◌, ◌||◌, ◌==◌, nat_le, List, [], ◌∷◌, Option, Some, None, Result, Ok, Err, if◌then◌else◌}
 use Rattle.std.specs.Result.{MatchResult}
 use Rattle.pc_model.specs.declared.limits.TheConstants.{MAX_PARTS}
@@ -63,7 +63,7 @@ is_skipped line = is_comment line || has_no_words (words_of line)
 
 -- ---- what a reader of a whole script answers
 
--- it is this, unless memory was wanting
+-- it is this, unless it is out of memory
 abbrev pub Reads : {X Y : Type 0}
     → (X → Y) → Result X ScriptReadFault → Result Y ScriptReadFault → Type 0
 Reads view (Ok x) read = read ≡ Ok (view x)

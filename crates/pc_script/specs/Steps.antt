@@ -55,7 +55,7 @@ step_asked_of count (Some word.Revoke) arguments = part_step Revoke count argume
 step_asked_of count (Some word.Lose) arguments = part_step Lose count arguments
 step_asked_of count (Some word.Crash) arguments = crash_step count arguments
 
--- what stands behind `at`
+-- what stands after `at`
 abbrev pub step_behind_at : List (List ℕ) → Result Step ScriptKind
 step_behind_at [] = Err WordCount
 step_behind_at (count ∷ []) = Err WordCount
@@ -101,7 +101,7 @@ allowed_of parts before Crash = Ok tt
 abbrev pub StepsOf : Type 0
 StepsOf = Result (List Step) ScriptFault
 
--- the step of a line behind these steps
+-- the step of a line after these steps
 abbrev pub step_of : ℕ → List Step → List ℕ → Result Step ScriptKind
 step_of parts before line = do
   step ← written_step_of (words_of line)
@@ -128,7 +128,7 @@ abbrev pub or_bad_step : StepsOf → Result (List Step) ScriptReadFault
 or_bad_step (Ok steps) = Ok steps
 or_bad_step (Err fault) = Err (read.Bad fault)
 
--- the steps of a text over so many parts, or its first fault
+-- the steps of a text over this many parts, or its first fault
 unfoldable pub steps_of : List ℕ → ℕ → Result (List Step) ScriptReadFault
 steps_of text parts =
     if nat_lt MAX_SCRIPT_LINES (length (lines_of text)) then Err read.TooManyLines
@@ -148,7 +148,7 @@ IsStep step = (step.count ≤ MAX_EVENTS) × IsAct step.act
 abbrev pub AreSteps : List Step → Type 0
 AreSteps steps = AllByRecursion IsStep steps
 
--- behind the steps before, each of these is of a part that has a log, and that is held, or not, as
+-- after the steps before, each of these is of a part that has a log, and that is held, or not, as
 -- its act wants
 abbrev pub AreAllowed : ℕ → List Step → List Step → Type 0
 AreAllowed parts before [] = ⊤

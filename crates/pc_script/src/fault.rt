@@ -10,7 +10,7 @@ use std::fmt;
 /// What is bad about a line, in the order in which a line is looked at.
 #[derive(Clone, Copy, Debug, PartialEq, Eq)]
 pub enum ScriptKind {
-    /// The first word, or the third of a rebalance line, is none of the script's words.
+    /// The first word, or the third of a rebalance line, is not one of the script's words.
     UnknownWord,
     /// The word has another number of arguments.
     WordCount,
@@ -59,7 +59,7 @@ pub enum ScriptReadFault {
     Bad(ScriptFault),
     /// The text has more than 1,000,000 lines, good or bad.
     TooManyLines,
-    /// Memory was wanting.
+    /// Out of memory.
     NoMemory,
 }
 

@@ -32,7 +32,7 @@ impl Held {
         }
     }
 
-    /// The step of a line, or its fault behind the steps before.
+    /// The step of a line, or its fault after the steps before.
     pub(crate) fn step(&self, number: u64, line: &[u8]) -> Result<Step, ScriptFault>
         ensures read { (before : List Step) → Mirrors self.now.flags before
             → result ≡ step_at number (step_of self.now.parts before line.now) }

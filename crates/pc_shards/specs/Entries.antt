@@ -23,7 +23,7 @@ pub record Entries : Type 0 where
 abbrev pub of_part : Entries → ℕ → List Entry
 of_part s p = slice_index_or s.parts p []
 
--- a record of which nothing but its offset and its key is known
+-- a record with nothing but its offset and its key
 abbrev pub bare_record : ℕ → Option (List ℕ) → Record
 bare_record o key = record
     { offset = o; time = pos 0; key = key; value = None; headers = [] }
@@ -62,7 +62,7 @@ abbrev pub marked : ℕ → Bool → Entry → Entry
 marked o b e = if e.record.offset == o then
     record { «record» = e.record; failures = e.failures; is_busy = b } else e
 
--- the entries, of which those at the offset are busy or not
+-- the entries, where those at the offset are busy or not
 abbrev pub with_busy : ℕ → Bool → List Entry → List Entry
 with_busy o b es = map (marked o b) es
 
@@ -71,7 +71,7 @@ abbrev pub failed : ℕ → Entry → Entry
 failed o e = if e.record.offset == o then
     record { «record» = e.record; failures = e.failures + 1; is_busy = e.is_busy } else e
 
--- the entries, of which those at the offset failed once more
+-- the entries, where those at the offset failed once more
 abbrev pub with_failure : ℕ → List Entry → List Entry
 with_failure o es = map (failed o) es
 

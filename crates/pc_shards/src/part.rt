@@ -70,8 +70,8 @@ impl<'a> Part<'a> {
         self.ready.reserve(self.entries.len() + more)
     }
 
-    /// Adds an entry at the end, for which room was made in both vectors. Fails where memory runs
-    /// out for the queue of its key.
+    /// Adds an entry at the end, for which room was made in both vectors. Fails when out of memory
+    /// for the queue of its key.
     pub fn add(&mut self, order: Order, added: RecordRef<'a>) -> Result<(), AllocError>
         requires places { deque_len self.old.entries < deque_capacity self.old.entries }
         requires room { length self.old.ready.offsets < self.old.ready.places }

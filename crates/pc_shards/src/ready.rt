@@ -8,7 +8,7 @@ use std::cmp::Reverse;
 use std::collections::BinaryHeap;
 use std::marker::Model;
 
-/// Offsets, of which the least comes first.
+/// Offsets, the least first.
 #[derive(Drop)]
 pub struct Ready {
     // The greatest of the reversed comparison is the least offset.

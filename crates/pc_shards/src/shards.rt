@@ -51,7 +51,7 @@ impl<'a> Shards<'a> {
         }
     }
 
-    /// Adds a record of which nothing but the offset and the key is known: it has the time 0, a
+    /// Adds a record with nothing but its offset and its key: it has the time 0, a
     /// null value and no headers. As `add_record` otherwise.
     pub fn add(&mut self, part: u32, offset: u64, key: Option<&'a [u8]>) -> Result<(), AllocError>
         requires { All (λ e. e.record.offset < offset) (of_part self.old part) }
@@ -71,8 +71,8 @@ impl<'a> Shards<'a> {
     }
 
     /// Adds a record that was polled and is incomplete, above all of its part that are there. It
-    /// did not fail and is not busy. Makes the room that the other calls need. Fails where memory
-    /// runs out, and changes nothing then.
+    /// did not fail and is not busy. Makes the room that the other calls need. Fails when out of
+    /// memory, and changes nothing then.
     pub fn add_record(&mut self, part: u32, added: RecordRef<'a>) -> Result<(), AllocError>
         requires { All (λ e. e.record.offset < added.offset) (of_part self.old part) }
         ensures added { OnOk result (of_part self.new part
@@ -85,8 +85,8 @@ impl<'a> Shards<'a> {
         Ok(())
     }
 
-    /// Makes room for `more` entries of the part. A call of `add_record` makes room for its own, but
-    /// many of them move the entries fewer times after this. Fails where memory runs out.
+    /// Makes room for `more` entries of the part. A call of `add_record` makes room for its own,
+    /// but many of them move the entries fewer times after this. Fails when out of memory.
     pub fn reserve(&mut self, part: u32, more: u32) -> Result<(), AllocError>
         ensures { ChangesNothing self.old self.new }
     {

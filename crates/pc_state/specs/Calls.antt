@@ -21,7 +21,7 @@ pollable_records given h p =
     filter (λ r. not (is_blocked given h p) || is_upto_high given h p r.offset)
     (unpolled_records given h p)
 
--- the next of them, at most so many
+-- the next of them, at most this many
 abbrev pub next_records : Given → List Event → ℕ → ℕ → List Record
 next_records given h p max = take max (pollable_records given h p)
 

@@ -1,4 +1,4 @@
--- Of which history a ledger is.
+-- Which history a ledger belongs to.
 use Rattle.std.specs.Prelude.{ℕ, ◌≡◌, ◌<◌, ◌≤◌, true, List, length, Some, nat_eq, option_map, slice_get, slice_index_or, unwrap_or}
 use Rattle.std.specs.HashMap.{get, spare}
 use Rattle.pc_model.specs.declared.event.Event.{Event}

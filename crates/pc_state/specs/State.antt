@@ -1,4 +1,4 @@
--- Of which history a state is.
+-- Which history a state belongs to.
 use Rattle.std.specs.Prelude.{ℕ, ◌+◌, ◌≡◌, ◌≤◌, ◌<◌, Bool, not, ◌&&◌, ◌||◌, ◌==◌, nat_le, nat_lt, if◌then◌else◌, true, List, [], ◌∷◌, map, filter, length, Option, Some, None, is_some, option_map, ⊤, slice_index_or}
 use Rattle.std.specs.List.{IsDistinct, list_any}
 use Rattle.pc_model.specs.declared.limits.TheConstants.{MAX_EVENTS, MAX_PARTS, MAX_RECORDS}

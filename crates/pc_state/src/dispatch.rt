@@ -65,7 +65,7 @@ impl<'a> State<'a> {
         }
     }
 
-    /// Makes the places that a job of a held part needs for its failure. The only error is want of
+    /// Makes the places that a job of a held part needs for its failure. The only error is out of
     /// memory; in either case the same is known.
     fn make_places(&mut self, part: u32) -> Result<(), AllocError>
         requires { (given : Given) × (h : List Event) × Knows given h self.old
@@ -84,8 +84,8 @@ impl<'a> State<'a> {
         Ok(())
     }
 
-    /// Dispatches the next record to a worker, with the function to run on it. The only error is want
-    /// of memory, after which the state is as before.
+    /// Dispatches the next record to a worker, with the function to run on it. The only error is
+    /// out of memory, after which the state is as before.
     pub fn dispatch<T>(
         &mut self,
         task: &'a T,

@@ -13,7 +13,7 @@ use crate::state::State;
 
 impl<'a> State<'a> {
     /// A held part was given back or lost: its epoch is over, and nothing stays that was learnt of
-    /// it but the jobs that are out. Answers the epoch that ended. Takes no memory.
+    /// it but the jobs that are out. Returns the epoch that ended. Takes no memory.
     pub fn release(&mut self, part: u32) -> u64
         requires { (given : Given) × (h : List Event) × Knows given h self.old
             × (is_held h part ≡ true) }

@@ -1,4 +1,4 @@
-//! The jobs that are out, by their tickets. `AreOpen` says of which history they are.
+//! The jobs that are out, by their tickets. `AreOpen` says which history that is.
 
 ghost use Rattle.std.specs.Prelude.{◌≡◌, ℕ, ◌+◌, List, [], ◌∷◌, Bool, true, false, ◌==◌, OnErr, OnOk, length, option_map, is_some};
 ghost use Rattle.pc_model.specs.declared.event.Event.{Event};
@@ -49,7 +49,7 @@ impl OpenJobs {
         self.jobs.get(&ticket).copied()
     }
 
-    /// One more job is out, with a new ticket. Where memory runs out, the same are out as before.
+    /// One more job is out, with a new ticket. Out of memory, the same are out as before.
     pub fn add(&mut self, ticket: u64, job: OpenJob) -> Result<(), AllocError>
         ensures added { OnOk result ((h : List Event) (worker : ℕ) → AreOpen h self.old
             → is_settled h ticket ≡ false → open_job h ticket ≡ None → AreOpen

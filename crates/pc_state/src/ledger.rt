@@ -1,5 +1,5 @@
-//! What is kept of a history as a whole, of what is stored of each part, and of what runs and failed
-//! there. `Counts` says of which history it is.
+//! What is kept of a history as a whole, of what is stored of each part, and of what runs and
+//! failed there. `Counts` says which history that is.
 
 ghost use Rattle.std.specs.Prelude.{◌≡◌, ◌+◌, ◌<◌, ◌≤◌, ◌^◌, ℕ, List, [], ◌∷◌, Some, true, false, IfOk, OnOk, length, nat_eq, unwrap_or, if◌then◌else◌, ◌==◌};
 ghost use Rattle.std.specs.HashMap.{get, spare};
@@ -67,7 +67,7 @@ impl PartLedger {
 }
 
 impl Ledger {
-    /// No event yet. The only error is want of memory.
+    /// No event yet. The only error is out of memory.
     pub fn new(alloc: Global, parts: u32) -> Result<Ledger, AllocError>
         ensures { IfOk result (λ ledger. (given : Given) → length given.logs ≡ parts
             → Counts given [] ledger) }
@@ -114,8 +114,8 @@ impl Ledger {
         self.parts[part as usize].fresh = 0;
     }
 
-    /// Makes a place for one more job of a held part. Answers how many jobs of it will be out then.
-    /// The only error is want of memory.
+    /// Makes a place for one more job of a held part. Returns how many jobs of it will be out then.
+    /// The only error is out of memory.
     pub fn make_place(&mut self, part: u32) -> Result<u32, AllocError>
         requires { (given : Given) × (h : List Event) × Counts given h self.old
             × (part < length given.logs) × (is_held h part ≡ true)
@@ -215,7 +215,7 @@ impl Ledger {
     }
 }
 
-/// What is kept of `count` parts, of which none is held. The only error is want of memory.
+/// What is kept of `count` parts, none of them held. The only error is out of memory.
 fn unheld(alloc: Global, count: u32) -> Result<Vec<PartLedger>, AllocError>
     ensures { IfOk result (λ parts. length parts.items ≡ count) }
 {

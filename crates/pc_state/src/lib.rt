@@ -1,5 +1,5 @@
 //! The state of a history: what is kept of it, so that the next event is found without reading it
-//! again. `Knows` says of which history a state is; each change says of which event it is the change.
+//! again. `Knows` says which history a state belongs to, and each change which event it belongs to.
 #![tactic(auto)]
 
 mod dispatch;

@@ -36,7 +36,7 @@ impl PartState<'_> {
     }
 }
 
-/// So many parts of which none was held.
+/// This many parts, none of them held.
 pub fn unheld<'a>(alloc: Global, count: u32) -> Result<Vec<PartState<'a>>, AllocError>
     ensures count { IfOk result (λ parts. length parts.items ≡ count) }
     ensures each { IfOk result (λ parts. parts.items

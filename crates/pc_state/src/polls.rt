@@ -78,7 +78,7 @@ impl<'a> State<'a> {
     }
 
     /// Polls the next records of a held part, at most `max`, under pressure none above its greatest
-    /// complete offset. The only error is want of memory, after which the state is as before.
+    /// complete offset. The only error is out of memory, after which the state is as before.
     pub fn poll(&mut self, alloc: Global, part: u32, max: u32) -> Result<Taken, AllocError>
         requires held { (given : Given) × (h : List Event) × Knows given h self.old
             × (is_held h part ≡ true) }
@@ -135,7 +135,7 @@ impl<'a> State<'a> {
 }
 
 /// Polls these records of a held part: those that are open are added to the shards, and all to the
-/// window. The only error is want of memory, after which the same is known and added as before.
+/// window. The only error is out of memory, after which the same is known and added as before.
 fn poll_held<'a>(
     alloc: Global,
     held: &mut HeldPart<'a>,
@@ -168,7 +168,7 @@ fn poll_held<'a>(
     }
 }
 
-/// As `poll_held`, but where memory runs out some of the records were added to the shards.
+/// As `poll_held`, but when out of memory some of the records were added to the shards.
 fn take_in<'a>(
     alloc: Global,
     held: &mut HeldPart<'a>,

@@ -1,5 +1,5 @@
-//! What the engine keeps beside its journal. `Knows` says of which history it is; each change tells
-//! of which event it is the change.
+//! What the engine keeps beside its journal. `Knows` says which history it belongs to; each change
+//! says which event it belongs to.
 
 ghost use Rattle.std.specs.Prelude.{◌≡◌, ◌+◌, ◌≤◌, ◌<◌, ◌^◌, ◌&&◌, ◌==◌, ℕ, List, [], ◌∷◌, Option, true, false, None, Some, IfOk, IfSome, length};
 ghost use Rattle.pc_model.specs.declared.event.Event.{Event};
@@ -46,7 +46,7 @@ pub struct State<'a> {
 }
 
 impl<'a> State<'a> {
-    /// No event yet. The only error is want of memory.
+    /// No event yet. The only error is out of memory.
     pub fn new(
         alloc: Global,
         setup: &'a Setup,
@@ -115,7 +115,7 @@ impl<'a> State<'a> {
     }
 
     /// The part is assigned: it reads its log from the position on, and the window is what the
-    /// stored commit says of its records. Answers the epoch that begins.
+    /// stored commit says of its records. Returns the epoch that begins.
     pub fn assign(&mut self, part: u32, position: u64, window: PartitionState) -> u64
         requires { (given : Given) × (h : List Event) × Knows given h self.old
             × (has_log given part ≡ true) }

@@ -7,8 +7,8 @@ ghost use Rattle.pc_model.specs.Outcomes.{answer_of};
 use pc_model::{Answer, Work};
 use std::alloc::{AllocError, Global};
 
-/// The function's answer to a value: its length or the sum of its bytes as a decimal, or the bytes in
-/// lower-case hexadecimal; `null` to a null value. The only error is want of memory.
+/// The function's answer to a value: its length or the sum of its bytes as a decimal, or the bytes
+/// in lower-case hexadecimal; `null` to a null value. The only error is out of memory.
 pub fn answer_of(alloc: Global, work: Work, value: Option<&[u8]>) -> Result<Answer, AllocError>
     ensures { IfOk result (λ answer. answer ≡ answer_of work (option_copied value.entry)) }
 {

@@ -26,7 +26,7 @@ pub struct Finished<'a, T: Task = RuleTask> {
 impl<'a, T: Task> Finished<'a, T> {
     ghost use Rattle.pc_task.specs.Results.{finished_job};
 
-    /// A copy of the result. The only error is want of memory.
+    /// A copy of the result. The only error is out of memory.
     pub fn copy(&self, alloc: Global) -> Result<Finished<'a, T>, AllocError>
         ensures job { IfOk result (λ done. finished_job done ≡ finished_job self.now) }
         ensures task { IfOk result (λ done. done.task ≡ self.now.task) }

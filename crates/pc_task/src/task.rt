@@ -28,7 +28,7 @@ pub trait Task {
     /// Whether two functions count as the same.
     ghost same: { Self → Self → Bool };
 
-    /// Runs the function on the job's record. The only error is want of memory.
+    /// Runs the function on the job's record. The only error is out of memory.
     fn call(&self, alloc: Global, job: &Job<'_, Self>) -> Result<Outcome, AllocError>
         ensures { IfOk result (λ it. it ≡ due_outcome (outcome self.now) (plain_job job.now)) };
 

@@ -49,7 +49,7 @@ unfoldable pub part_setup : Setup
 unfolding settings_fault
 part_setup = record { settings = record default_settings { order = Partition }; in_range = refl }
 
--- two parts with the same three records, of which each runs one after the other
+-- two parts with the same three records; those of each run one after the other
 unfoldable pub by_part : Given
 by_part = record (row_given part_setup) { logs = Some row_log ∷ Some row_log ∷ [] }
 

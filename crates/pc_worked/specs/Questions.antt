@@ -40,7 +40,7 @@ spent_setup = record {
   in_range = refl;
 }
 
--- it fails twice, 100 after 100, and the others wait behind it for good
+-- it fails twice, 100 after 100, and the others wait for it and never run
 abbrev pub spent_steps : List Event
 spent_steps = Assign 0 1 0 [] ∷ Poll 0 3 2 ∷ Dispatch 1 0 0 0 1 1 ∷ Failure 1 1 100 ∷ Tick 100
     ∷ Dispatch 2 0 0 0 1 2 ∷ Failure 2 1 200 ∷ []

@@ -11,7 +11,8 @@ use Rattle.pc_model.specs.Broker.{Broker, Request, after_some}
 abbrev pub HasRisen : ℕ → ℕ → Type 0
 HasRisen before after = (before < after) ⊎ (after ≡ 2 ^ 64 - 1)
 
--- a file's contents stand behind what was there: those that are told, where they are, and at most so many
+-- a file's contents stand after what was there: those that are told, where they are, and at most
+-- this many
 pub record AppendsFile (most : ℕ) (told : Option (List ℕ)) (before after : List ℕ) : Type 0 where
   pub contents : List ℕ
   pub behind : after ≡ before ++ contents

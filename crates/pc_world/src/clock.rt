@@ -6,6 +6,6 @@ pub trait Clock {
     /// The time in milliseconds.
     fn now(&self) -> u64;
 
-    /// Waits for so many milliseconds.
+    /// Waits for this many milliseconds.
     fn rest(&self, ms: u64);
 }

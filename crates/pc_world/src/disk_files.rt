@@ -23,7 +23,7 @@ impl<'a, R: std::rt::Files> DiskFiles<'a, R> {
         DiskFiles { rt, failed }
     }
 
-    /// Reads one byte more than a file may have at the most.
+    /// Reads one byte more than a file may have.
     fn read_some(&self, name: &str, into: &mut Vec<u8>) -> io::Result<()>
         ensures { take (vec_len into.old) into.new.items ≡ into.old.items }
     {

@@ -21,7 +21,7 @@ impl<L: Link> FailingLink<L> {
 
     /// A link over another. Of its calls, counted from 1, those of `fails` are not handed on, and
     /// those of `late` are handed on and then answered `Failed`; a number on both lists counts as
-    /// one of `fails`. The error is want of memory and gives the link back.
+    /// one of `fails`. The error is out of memory and gives the link back.
     pub fn new(alloc: Global, link: L, fails: &[u64], late: &[u64]) -> Result<FailingLink<L>, L>
         ensures over { IfOk result (λ l. inner l ≡ link) }
         ensures none { IfOk result (λ l. faults_of l ≡ 0) }

@@ -28,7 +28,7 @@ impl Faults {
         })
     }
 
-    /// Counts one more call, and answers whether it is to fail.
+    /// Counts one more call, and returns whether it is to fail.
     pub fn next_fails(&mut self) -> bool
         ensures calls { self.new.calls ≡ min (self.old.calls + 1) (2 ^ 64 - 1) }
         ensures fails { self.new.fails.items ≡ self.old.fails.items }

@@ -17,7 +17,7 @@ pub enum FilesFault {
     /// The file has more bytes than a file may have.
     #[error("the file is too long")]
     TooLong,
-    /// Memory ran out.
+    /// Out of memory.
     #[error("out of memory")]
     NoMemory,
 }

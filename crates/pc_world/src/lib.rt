@@ -1,6 +1,6 @@
 //! The outside of parcon as traits: files that are read, a sink that is written, and a link to a
-//! broker of offsets, each with a count of its faults, and a clock. A fault is answered only where the
-//! count rose.
+//! broker of offsets, each with a count of its faults, and a clock. A fault is returned only where
+//! the count rose.
 #![tactic(auto)]
 
 mod clock;

@@ -17,7 +17,7 @@ pub enum LinkFault {
     /// The outside failed.
     #[error("the link failed")]
     Failed,
-    /// Memory ran out.
+    /// Out of memory.
     #[error("out of memory")]
     NoMemory,
 }
@@ -49,7 +49,7 @@ pub trait Link {
     /// How often the outside has failed. The count stops at 2^64 - 1.
     ghost faults: { Self → ℕ };
 
-    /// Sends a commit request or a fetch request of at most 262,144 bytes, and answers the reply.
+    /// Sends a commit request or a fetch request of at most 262,144 bytes, and returns the reply.
     /// Fails with `Failed` only where the count of faults rose; the broker may have stored some
     /// first items of the frame then, from none to all. After `NoMemory` it stores what it stored.
     /// A told store has positions up to 2^63 - 1, and texts of at most 4,096 bytes.

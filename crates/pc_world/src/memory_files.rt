@@ -30,7 +30,7 @@ impl MemoryFiles {
     ghost use Rattle.pc_world.specs.MemoryFiles.{contents_of};
 
     /// No files. `fails` has the numbers of the reads, counted from 1, that are to fail. The only
-    /// error is want of memory.
+    /// error is out of memory.
     pub fn new(alloc: Global, fails: &[u64]) -> Result<MemoryFiles, AllocError>
         ensures { IfOk result (λ f. (n : List ℕ) → contents_of f n ≡ None) }
     {
@@ -42,8 +42,8 @@ impl MemoryFiles {
         })
     }
 
-    /// Adds a file, in the place of the one of that name if there is one. The only error is want
-    /// of memory, after which all is as before.
+    /// Adds a file, in the place of the one of that name if there is one. The only error is out of
+    /// memory, after which all is as before.
     pub fn add(&mut self, name: &str, bytes: &[u8]) -> Result<(), AllocError>
         ensures added { OnOk result (contents_of self.new name.now ≡ Some bytes.now) }
         ensures others { OnOk result ((n : List ℕ) → (n ≡ name.now → ⊥) → contents_of self.new n ≡ contents_of self.old n) }

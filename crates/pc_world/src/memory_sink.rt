@@ -7,8 +7,8 @@ use crate::faults::Faults;
 use crate::sink::{Sink, SinkFailed};
 use std::alloc::{AllocError, Global};
 
-/// A sink in memory with room for so many bytes. A write takes the bytes that still fit; where none
-/// fits it fails, and so do the writes whose numbers it was given.
+/// A sink in memory with room for this many bytes. A write takes the bytes that still fit; where
+/// none fits it fails, and so do the writes whose numbers it was given.
 #[derive(Debug, Drop)]
 pub struct MemorySink {
     bytes: Vec<u8>,
@@ -19,7 +19,7 @@ impl MemorySink {
     ghost use Rattle.pc_world.specs.MemorySink.{bytes_of};
 
     /// An empty sink, whose memory is taken at once. `fails` has the numbers of the writes, counted
-    /// from 1, that are to fail. The only error is want of memory.
+    /// from 1, that are to fail. The only error is out of memory.
     pub fn new(alloc: Global, room: u64, fails: &[u64]) -> Result<MemorySink, AllocError>
         ensures { IfOk result (λ s. bytes_of s ≡ []) }
     {

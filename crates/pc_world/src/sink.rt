@@ -18,7 +18,7 @@ pub trait Sink {
     /// How often the outside has failed. The count stops at 2^64 - 1.
     ghost faults: { Self → ℕ };
 
-    /// Writes the first bytes of a piece, at least one, and answers how many. Fails exactly where
+    /// Writes the first bytes of a piece, at least one, and returns how many. Fails exactly where
     /// the count of faults rose, and nothing was written then.
     fn write(&mut self, piece: &[u8]) -> Result<usize, SinkFailed>
         requires { 0 < length piece.now }
