@@ -8,3 +8,4 @@ mod Drains
 mod Ticks
 mod BoundLaw
 mod FailedLaw
+pub mod FinishedLaw

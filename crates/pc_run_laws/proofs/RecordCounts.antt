@@ -475,7 +475,7 @@ failures-fail given (v ∷ h) p e o r legal log k low high = failures-fail given
 
 module _ (given : Given) (h : List Event) (p : ℕ) (r : Record) (legal : IsLegal given h)
     (log : record_at given p r.offset ≡ Some r) where
-  failures-few : failures_of h p r.offset ≤ failing_attempts given p r
+  pub failures-few : failures_of h p r.offset ≤ failing_attempts given p r
   failures-few = failing-some (given.outcome p r) 1 (failures_of h p r.offset) given.setup.settings.give_up
       (λ k low high. failures-fail given h p (epoch_of h p) r.offset r legal log k low (omega arith))
       (failures-most given h legal p (epoch_of h p) r.offset)

@@ -528,7 +528,7 @@ rests-polled given steps h p run rests held i empty = elim (cases_Bool (is_drain
 ]
 
 -- an unfinished record is one that the log has
-unfinished-record : (given : Given) (h : List Event) (p : ℕ) (r : Record) → IsLegal given h
+pub unfinished-record : (given : Given) (h : List Event) (p : ℕ) (r : Record) → IsLegal given h
     → IsFirstUnfinished given h p r → In r (records_of given p)
 unfolding unpolled_records
 unfinished-record given h p r legal first =

@@ -1,23 +1,27 @@
-//! Laws of every run by its steps: what it leaves at its end was given up, it stays at rest once it
-//! drains, its events are bounded by its input, and its failed commits have a cause.
+//! Laws of every run by its steps: what it leaves at its end was given up, and nothing is left
+//! where each record succeeds in time. It stays at rest once it drains, its events are bounded by its
+//! input, and its failed commits have a cause.
 //!
 //! Each function does nothing; its clause is the law, for every setup, log, start, function, script of
 //! steps and history.
 #![tactic(auto)]
 
-ghost use Rattle.std.specs.Prelude.{ℕ, ◌+◌, ◌-◌, ◌^◌, Bool, true, List, ◌++◌, length, ◌≡◌, ◌≤◌, ◌⊎◌};
+ghost use Rattle.std.specs.Prelude.{ℕ, ◌+◌, ◌-◌, ◌^◌, Bool, true, List, [], ◌++◌, length, ◌≡◌, ◌≤◌, ◌⊎◌};
 ghost use Rattle.pc_model.specs.declared.event.Event.{Event};
 ghost use Rattle.pc_model.specs.declared.commit.Commit.{Commit};
 ghost use Rattle.pc_model.specs.declared.step.Step.{Step};
-ghost use Rattle.pc_model.specs.Bound.{event_bound};
-ghost use Rattle.pc_model.specs.Given.{Given};
+ghost use Rattle.pc_model.specs.Bound.{event_bound, failing_attempts};
+ghost use Rattle.pc_model.specs.Given.{Given, records_of};
 ghost use Rattle.pc_model.specs.Jobs.{is_draining, open_jobs};
 ghost use Rattle.pc_model.specs.Epochs.{is_held};
+ghost use Rattle.pc_model.specs.Known.{unpolled_records};
+ghost use Rattle.pc_model.specs.Lawful.{IsLegal};
 ghost use Rattle.pc_model.specs.Record.{Record};
 ghost use Rattle.pc_model.specs.Retry.{failures_of};
-ghost use Rattle.pc_model.specs.Run.{is_at_rest};
+ghost use Rattle.pc_model.specs.Run.{is_at_rest, open_records};
+ghost use Rattle.pc_laws.specs.Lists.{In};
 ghost use Rattle.pc_run_laws.specs.Failed.{AreCaused, last_count, unrefused_commits};
-ghost use Rattle.pc_run_laws.specs.Run.{IsFirstUnfinished, IsRun};
+ghost use Rattle.pc_run_laws.specs.Run.{IsFirstUnfinished, IsRun, SucceedsInTime};
 
 /// From its drain on a run stays at rest.
 pub fn stays_at_rest()
@@ -34,8 +38,28 @@ pub fn what_is_left_is_given_up()
         → failures_of h p r.offset ≡ given.setup.settings.give_up }
 {}
 
-/// Events are bounded by the input: with a place for the result of each job that is out, they are at
-/// most the bound of the steps less 2.
+/// A record of a log fails no more often than the function says: in the present epoch of its part
+/// at most as often as its attempts are bad before the first good one.
+pub fn failures_are_of_bad_attempts()
+    ensures { (given : Given) (h : List Event) (p : ℕ) (r : Record)
+        → IsLegal given h → In r (records_of given p)
+        → failures_of h p r.offset ≤ failing_attempts given p r }
+{}
+
+/// At rest a held part of which each record succeeds in time is finished: all its records from its
+/// begin on were polled, and each of them is complete.
+pub fn all_is_finished_at_rest()
+    ensures unfinished { (given : Given) (steps : List Step) (h : List Event) (p : ℕ)
+        → IsRun given steps h → is_at_rest given h ≡ true → is_held h p ≡ true
+        → SucceedsInTime given p → (r : Record) → IsFirstUnfinished given h p r → ⊥ }
+    ensures finished { (given : Given) (steps : List Step) (h : List Event) (p : ℕ)
+        → IsRun given steps h → is_at_rest given h ≡ true → is_held h p ≡ true
+        → SucceedsInTime given p
+        → (open_records given h p ≡ []) × (unpolled_records given h p ≡ []) }
+{}
+
+/// Events are bounded by the input: with a place for the result of each job that is out, they are
+/// at most the bound of the steps less 2.
 pub fn events_are_bounded()
     ensures { (given : Given) (steps : List Step) (h : List Event) → IsRun given steps h
         → length h + length (open_jobs h) + 2 ≤ event_bound given steps }
