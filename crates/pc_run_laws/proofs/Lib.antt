@@ -9,3 +9,4 @@ mod Ticks
 mod BoundLaw
 mod FailedLaw
 pub mod FinishedLaw
+pub mod StartLaw

@@ -1,17 +1,17 @@
 //! Laws of every run by its steps: what it leaves at its end was given up, and nothing is left
-//! where each record succeeds in time. It stays at rest once it drains, its events are bounded by its
-//! input, and its failed commits have a cause.
+//! where each record succeeds in time. It stays at rest once it drains, its events are bounded by
+//! its input, and its failed commits have a cause. Its parts begin with their start.
 //!
 //! Each function does nothing; its clause is the law, for every setup, log, start, function, script of
 //! steps and history.
 #![tactic(auto)]
 
-ghost use Rattle.std.specs.Prelude.{ℕ, ◌+◌, ◌-◌, ◌^◌, Bool, true, List, [], ◌++◌, length, ◌≡◌, ◌≤◌, ◌⊎◌};
+ghost use Rattle.std.specs.Prelude.{ℕ, ◌+◌, ◌-◌, ◌^◌, Bool, true, List, [], ◌++◌, length, Some, ◌≡◌, ◌≤◌, ◌⊎◌};
 ghost use Rattle.pc_model.specs.declared.event.Event.{Event};
 ghost use Rattle.pc_model.specs.declared.commit.Commit.{Commit};
 ghost use Rattle.pc_model.specs.declared.step.Step.{Step};
 ghost use Rattle.pc_model.specs.Bound.{event_bound, failing_attempts};
-ghost use Rattle.pc_model.specs.Given.{Given, records_of};
+ghost use Rattle.pc_model.specs.Given.{Given, records_of, start_of};
 ghost use Rattle.pc_model.specs.Jobs.{is_draining, open_jobs};
 ghost use Rattle.pc_model.specs.Epochs.{is_held};
 ghost use Rattle.pc_model.specs.Known.{unpolled_records};
@@ -20,6 +20,7 @@ ghost use Rattle.pc_model.specs.Record.{Record};
 ghost use Rattle.pc_model.specs.Retry.{failures_of};
 ghost use Rattle.pc_model.specs.Run.{is_at_rest, open_records};
 ghost use Rattle.pc_laws.specs.Lists.{In};
+ghost use Rattle.pc_run_laws.specs.Assigned.{first_assigned};
 ghost use Rattle.pc_run_laws.specs.Failed.{AreCaused, last_count, unrefused_commits};
 ghost use Rattle.pc_run_laws.specs.Run.{IsFirstUnfinished, IsRun, SucceedsInTime};
 
@@ -56,6 +57,20 @@ pub fn all_is_finished_at_rest()
         → IsRun given steps h → is_at_rest given h ≡ true → is_held h p ≡ true
         → SucceedsInTime given p
         → (open_records given h p ≡ []) × (unpolled_records given h p ≡ []) }
+{}
+
+/// Over a link that tells its store, the first assignment of a part has the commit that was stored
+/// for it before the run.
+pub fn a_part_begins_with_its_start()
+    ensures { (given : Given) (h : List Event) (p : ℕ) (c : Commit)
+        → given.is_told ≡ true → IsLegal given h → first_assigned h p ≡ Some c
+        → c ≡ start_of given p }
+{}
+
+/// A part that is held was assigned.
+pub fn what_is_held_was_assigned()
+    ensures { (h : List Event) (p : ℕ) → is_held h p ≡ true
+        → (c : Commit) × (first_assigned h p ≡ Some c) }
 {}
 
 /// Events are bounded by the input: with a place for the result of each job that is out, they are
