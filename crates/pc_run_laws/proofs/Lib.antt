@@ -10,3 +10,4 @@ mod BoundLaw
 mod FailedLaw
 pub mod FinishedLaw
 pub mod StartLaw
+pub mod HeldBySteps

@@ -68,11 +68,11 @@ held-few given h legal = filter-fewer (is_held h) (has_log given) (parts_of give
 -- ---- the next step
 
 -- where the block of an act begins: the step, and what is left of the steps after it
-record Begins (given : Given) (steps : List Step) (h : List Event) (act : Act) : Type 0 where
-  step : Step
-  found : slice_get steps (place_of given h).begun ≡ Some step
-  is_act : same_act step.act act ≡ true
-  whole : (place_of given h).left ≡ []
+pub record Begins (given : Given) (steps : List Step) (h : List Event) (act : Act) : Type 0 where
+  pub step : Step
+  pub found : slice_get steps (place_of given h).begun ≡ Some step
+  pub is_act : same_act step.act act ≡ true
+  pub whole : (place_of given h).left ≡ []
 
 begins-step : (given : Given) (steps : List Step) (h : List Event) (act : Act) (found : Option Step)
     → slice_get steps (place_of given h).begun ≡ found → (place_of given h).left ≡ []
@@ -82,7 +82,7 @@ begins-step given steps h act None at whole test = cc
 begins-step given steps h act (Some step) at whole test =
     record { step = step; found = at; is_act = and-left _ _ test; whole = whole }
 
-begins : (given : Given) (steps : List Step) (h : List Event) (act : Act) → may_begin given steps h act ≡ true
+pub begins : (given : Given) (steps : List Step) (h : List Event) (act : Act) → may_begin given steps h act ≡ true
     → Begins given steps h act
 begins given steps h act may = begins-step given steps h act (slice_get steps (place_of given h).begun) refl
     (is_nil-of (place_of given h).left (and-left _ _ may))

@@ -1,3 +1,4 @@
 pub mod Run
 pub mod Failed
 pub mod Assigned
+pub mod Held

@@ -1,12 +1,13 @@
 //! Laws of every run by its steps: what it leaves at its end was given up, and nothing is left
 //! where each record succeeds in time. It stays at rest once it drains, its events are bounded by
-//! its input, and its failed commits have a cause. Its parts begin with their start.
+//! its input, and its failed commits have a cause. Each part begins with its start, and which parts
+//! it holds goes by its steps.
 //!
 //! Each function does nothing; its clause is the law, for every setup, log, start, function, script of
 //! steps and history.
 #![tactic(auto)]
 
-ghost use Rattle.std.specs.Prelude.{ℕ, ◌+◌, ◌-◌, ◌^◌, Bool, true, List, [], ◌++◌, length, Some, ◌≡◌, ◌≤◌, ◌⊎◌};
+ghost use Rattle.std.specs.Prelude.{ℕ, ◌+◌, ◌-◌, ◌^◌, Bool, true, ◌||◌, List, [], ◌++◌, length, take, Some, ◌≡◌, ◌≤◌, ◌⊎◌};
 ghost use Rattle.pc_model.specs.declared.event.Event.{Event};
 ghost use Rattle.pc_model.specs.declared.commit.Commit.{Commit};
 ghost use Rattle.pc_model.specs.declared.step.Step.{Step};
@@ -19,9 +20,11 @@ ghost use Rattle.pc_model.specs.Lawful.{IsLegal};
 ghost use Rattle.pc_model.specs.Record.{Record};
 ghost use Rattle.pc_model.specs.Retry.{failures_of};
 ghost use Rattle.pc_model.specs.Run.{is_at_rest, open_records};
+ghost use Rattle.pc_model.specs.Steps.{place_of};
 ghost use Rattle.pc_laws.specs.Lists.{In};
 ghost use Rattle.pc_run_laws.specs.Assigned.{first_assigned};
 ghost use Rattle.pc_run_laws.specs.Failed.{AreCaused, last_count, unrefused_commits};
+ghost use Rattle.pc_run_laws.specs.Held.{held_after, is_left};
 ghost use Rattle.pc_run_laws.specs.Run.{IsFirstUnfinished, IsRun, SucceedsInTime};
 
 /// From its drain on a run stays at rest.
@@ -71,6 +74,20 @@ pub fn a_part_begins_with_its_start()
 pub fn what_is_held_was_assigned()
     ensures { (h : List Event) (p : ℕ) → is_held h p ≡ true
         → (c : Commit) × (first_assigned h p ≡ Some c) }
+{}
+
+/// Which parts a run holds goes by the steps whose blocks were begun: at each place between two
+/// blocks; within the block of a crash, with the parts that it still has to assign again; and once
+/// the run drains, by all of its steps.
+pub fn held_goes_by_the_steps()
+    ensures whole { (given : Given) (steps : List Step) (h : List Event) (p : ℕ)
+        → IsRun given steps h → (place_of given h).left ≡ []
+        → is_held h p ≡ held_after (take (place_of given h).begun steps) p }
+    ensures cut_short { (given : Given) (steps : List Step) (h : List Event) (p : ℕ)
+        → IsRun given steps h → (is_held h p || is_left given h p)
+        ≡ held_after (take (place_of given h).begun steps) p }
+    ensures drained { (given : Given) (steps : List Step) (h : List Event) (p : ℕ)
+        → IsRun given steps h → is_draining h ≡ true → is_held h p ≡ held_after steps p }
 {}
 
 /// Events are bounded by the input: with a place for the result of each job that is out, they are
