@@ -9,6 +9,7 @@ use Rattle.pc_model.specs.declared.commit.SizedCommit.{SizedCommit}
 use Rattle.pc_model.specs.declared.event.Event.{Event}
 use Rattle.pc_model.specs.declared.event.Event.TheVariants.{Done}
 use Rattle.pc_model.specs.declared.limits.TheConstants.{MAX_RECORDS}
+use Rattle.pc_model.specs.Broker.{Broker}
 use Rattle.pc_model.specs.Record.{Record}
 use Rattle.pc_model.specs.Given.{Given, has_log, parts_of}
 use Rattle.pc_model.specs.Jobs.{has_ended, is_draining}
@@ -32,7 +33,9 @@ use Rattle.pc_engine.specs.declared.fault.EngineFault.TheVariants.{JournalFull, 
 use Rattle.pc_engine.specs.declared.engine.Committed.{Committed as Receipt}
 use Rattle.pc_engine.specs.Effect.{Step, Does, commit_after, commit_refusal, commit_step, commit_with, is_full, poll_left, poll_step, polls, refuses}
 use Rattle.pc_engine.specs.Ending.{adds_after, finish_refusal, finish_step}
+use Rattle.pc_engine.specs.Engine.{EngineView}
 use Rattle.pc_engine.specs.Fault.{unfinished_fault}
+use Rattle.pc_engine.specs.Stand.{stand_of}
 use Rattle.pc_drain.specs.Turn.{IsCommitRefusal, IsEndRefusal, IsRefusal}
 use Rattle.pc_drain.proofs.ActionLemmas.{find-none}
 
@@ -194,3 +197,19 @@ finish-refused given h h' r runs saved does =
     does-refused IsEndRefusal r (finish_step given h) h h' tt
     (rw (runs, none-uncommitted given h saved) (end-cases (first_unfinished given h) (is_full h 1)))
     does
+
+-- where an engine stands whose journal and link are as before
+pub same-stand : {L T : Type 0} (store : L → Broker) (faults : L → ℕ) (e e' : EngineView L T)
+    → e'.journal.events ≡ e.journal.events → e'.link ≡ e.link
+    → stand_of store faults e' ≡ stand_of store faults e
+same-stand {L} {T} store faults e e' events link =
+    ap (λ (h : List Event). record {
+      history = h;
+      store = store e'.link;
+      faults = faults e'.link;
+    }) events
+    ∙ ap (λ (l : L). record {
+      history = e.journal.events;
+      store = store l;
+      faults = faults l;
+    }) link

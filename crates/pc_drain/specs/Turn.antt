@@ -1,5 +1,5 @@
 -- What a control turn does, by what the link did at its call.
-use Rattle.std.specs.Prelude.{ℕ, ◌≡◌, ◌≤◌, ◌↔◌, ◌∷◌, Bool, true, false, IsTrue, List, Result, Ok, Err}
+use Rattle.std.specs.Prelude.{ℕ, ◌≡◌, ◌≤◌, ◌↔◌, ◌∷◌, Bool, true, false, IsTrue, List, Result, Ok, Err, Some}
 use Rattle.pc_model.specs.declared.event.Event.{Event}
 use Rattle.pc_model.specs.declared.outcome.Outcome.{Outcome}
 use Rattle.pc_model.specs.declared.outcome.Outcome.TheVariants.{Good, Bad}
@@ -15,7 +15,7 @@ use Rattle.pc_mailbox.specs.Ends.{Receiving, TakenNext}
 use Rattle.pc_engine.specs.declared.engine.Committed.{Committed as Receipt}
 use Rattle.pc_engine.specs.declared.fault.EngineFault.{EngineFault}
 use Rattle.pc_engine.specs.declared.fault.EngineFault.TheVariants as fault
-use Rattle.pc_engine.specs.Effect.{Does, IsStored, Step, commit_step, poll_step, settle_event, tick_step}
+use Rattle.pc_engine.specs.Effect.{Does, IsStored, KeepsStore, Step, commit_refusal, commit_step, poll_step, settle_event, tick_step}
 use Rattle.pc_engine.specs.Ending.{drain_step, finish_step}
 use Rattle.pc_engine.specs.Engine.{EngineView, Expects, given_of}
 use Rattle.pc_engine.specs.Stand.{DoesAlone, Stand}
@@ -79,7 +79,9 @@ pub record Calls {A : Type 0} (step : Step A) (before after : Stand) (turn : Tur
   pub does : DoesAlone step before after answer
   pub turn_is : turn ≡ call_turn answer
 
--- The part was committed, or not, by what the link did. Without an event what is stored stays.
+-- The part was committed, or not, by what the link did. What is stored stays after every answer but
+-- that it was committed or that the client failed, and a refusal before the link is asked changes
+-- nothing.
 pub record Commits (told : Bool) (given : Given) (p : ℕ) (as_turn : Result Receipt EngineFault → Turn)
     (before after : Stand) (turn : Turn) : Type 0 where
   pub asked : Result (Unit {0}) ClientFault
@@ -87,6 +89,9 @@ pub record Commits (told : Bool) (given : Given) (p : ℕ) (as_turn : Result Rec
       (commit_of given before.history p).commit asked
   pub answer : Result Receipt EngineFault
   pub does : Does answer (commit_step given before.history p asked) before.history after.history
+  pub stays : told ≡ true → KeepsStore answer before.store after.store
+  pub unasked : (refusal : EngineFault) → commit_refusal given before.history p ≡ Some refusal
+      → after ≡ before
   pub later : before.faults ≤ after.faults
   pub turn_is : turn ≡ as_turn answer
 
