@@ -1,8 +1,7 @@
 -- What is kept of a run when a result is settled that the mailbox handed back.
-use Rattle.std.proofs.Common.{◌≡◌, ◌∙◌, ℕ, ◌+◌, ◌≤◌, ◌<◌, ◌^◌, Bool, true, false, ◌&&◌, inl, inr, List, [], ◌∷◌, ◌++◌, length, Option, Some, None, refl, ap, sym, subst, arith}
+use Rattle.std.proofs.Common.{◌≡◌, ◌∙◌, ℕ, ◌+◌, ◌≤◌, Bool, ◌&&◌, inl, inr, List, [], ◌∷◌, length, Option, None, refl, ap, sym, subst, arith}
 use Rattle.std.specs.Prelude.{◌==◌, if◌then◌else◌}
 use Rattle.std.proofs.lemmas.Bool.{cases_Bool}
-use Rattle.pc_model.specs.declared.commit.Commit.{Commit}
 use Rattle.pc_model.specs.declared.event.Event.{Event}
 use Rattle.pc_model.specs.declared.event.Event.TheVariants.{Success, Failure, Stale}
 use Rattle.pc_model.specs.declared.limits.TheConstants.{MAX_EVENTS}
@@ -12,14 +11,12 @@ use Rattle.pc_model.specs.declared.step.Step.{Step}
 use Rattle.pc_model.specs.Broker.{Broker}
 use Rattle.pc_model.specs.Epochs.{epoch_of, is_held}
 use Rattle.pc_model.specs.Given.{Given}
-use Rattle.pc_model.specs.Jobs.{has_ended, open_jobs}
 use Rattle.pc_model.specs.Lawful.{IsLegal, is_nil}
 use Rattle.pc_drain.specs.Counts.{settled_count}
 use Rattle.pc_task.specs.Jobs.{Outcomes, PlainJob}
 use Rattle.pc_engine.specs.Effect.{settle_event, settled_event}
 use Rattle.pc_engine.specs.Engine.{EngineView, Keeps, given_of}
 use Rattle.pc_state_lock.specs.Heading.{Heading}
-use Rattle.pc_state_lock.specs.History.{Continues}
 use Rattle.pc_pool.specs.declared.ending.Ending.{Ending}
 use Rattle.pc_pool.specs.Run.{IsConsuming, heading_by}
 use Rattle.pc_pool.proofs.KeepLemmas.{IsKeptBy, goes-on-with, kept-after}

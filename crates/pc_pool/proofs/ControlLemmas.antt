@@ -1,19 +1,16 @@
 -- What is kept of a run by a control turn.
-use Rattle.std.proofs.Common.{◌≡◌, ◌∙◌, ℕ, ◌+◌, ◌≤◌, ◌<◌, Bool, true, false, ◌&&◌, inl, inr, ◌⊎◌, List, [], ◌∷◌, ◌++◌, length, Option, Some, None, Result, Ok, Err, refl, ap, sym, subst, arith}
-use Rattle.std.specs.Prelude.{if◌then◌else◌, ◌==◌, nat_lt, option_map, slice_get}
+use Rattle.std.proofs.Common.{◌≡◌, ◌∙◌, ℕ, ◌≤◌, Bool, true, false, inl, inr, List, [], ◌∷◌, ◌++◌, length, Option, Some, None, Err, refl, ap, sym, subst, arith}
+use Rattle.std.specs.Prelude.{◌==◌, nat_lt, option_map, slice_get}
 use Rattle.std.specs.List.{list_all}
 use Rattle.std.specs.Option.{option_or}
 use Rattle.std.proofs.lemmas.Bool.{cases_Bool, eqb-true}
 use Rattle.pc_model.specs.declared.commit.Commit.{Commit}
 use Rattle.pc_model.specs.declared.event.Event.{Event}
-use Rattle.pc_model.specs.declared.event.Event.TheVariants.{CommitFailed, Done as AllDone}
-use Rattle.pc_model.specs.declared.limits.TheConstants.{MAX_EVENTS}
 use Rattle.pc_model.specs.declared.step.Step.{Step as RunStep}
-use Rattle.pc_model.specs.Bound.{event_bound}
 use Rattle.pc_model.specs.Broker.{Broker}
 use Rattle.pc_model.specs.Epochs.{is_held}
 use Rattle.pc_model.specs.Given.{Given, has_log, parts_of}
-use Rattle.pc_model.specs.Jobs.{has_ended, is_draining, open_jobs}
+use Rattle.pc_model.specs.Jobs.{has_ended, is_draining}
 use Rattle.pc_model.specs.Known.{commit_of, unpolled_records}
 use Rattle.pc_model.specs.Lawful.{IsLegal}
 use Rattle.pc_model.specs.Numbers.{first_some}
@@ -22,11 +19,11 @@ use Rattle.pc_model.specs.Record.{Record}
 use Rattle.pc_model.specs.Retry.{failures_of}
 use Rattle.pc_model.specs.Run.{is_at_rest, open_records}
 use Rattle.pc_model.specs.Steps.{Place, follows, place_of}
-use Rattle.pc_state.specs.Queries.{first_unfinished, unfinished, unfinished_at}
+use Rattle.pc_state.specs.Queries.{first_unfinished, unfinished_at}
 use Rattle.pc_world.specs.World.{HasRisen}
 use Rattle.pc_offset_client.specs.declared.fault.ClientFault.{ClientFault}
 use Rattle.pc_offset_client.specs.declared.fault.ClientFault.TheVariants.{LinkFailed, Refused, BadReply, OtherReply, NoMemory as Forgot}
-use Rattle.pc_offset_client.specs.Client.{CommitGives, commit_code}
+use Rattle.pc_offset_client.specs.Client.{commit_code}
 use Rattle.pc_engine.specs.Effect.{IsStored, StoresOnly, is_full}
 use Rattle.pc_engine.specs.Stand.{Stand}
 use Rattle.pc_run_laws.specs.Run.{AnyMayCome, IsFirstUnfinished, IsRun}
@@ -38,7 +35,6 @@ use Rattle.pc_drain.specs.Turn.{EndsUnsaved}
 use Rattle.pc_drain.proofs.ActionLemmas.{IsOver}
 use Rattle.pc_state_lock.specs.Heading.{Heading}
 use Rattle.pc_pool.specs.declared.ending.Ending.{Ending}
-use Rattle.pc_pool.specs.declared.ending.Ending.TheVariants.{Client, Done, JournalFull, NoMemory, Undrained}
 use Rattle.pc_pool.specs.Ending.{HasCause, HasEnding, IsUndrained}
 use Rattle.pc_pool.specs.Run.{Ends, GoesOn, IsConsuming, ended_by, ending_of, heading_by}
 use Rattle.pc_pool.proofs.EndLemmas.{EndOf, IsPlain}

@@ -1,17 +1,16 @@
 -- What a control turn adds to a history, and what it means where it ends the run.
-use Rattle.std.proofs.Common.{◌≡◌, ◌∙◌, ℕ, Bool, true, false, ◌&&◌, inl, inr, ◌⊎◌, List, [], ◌∷◌, ◌++◌, Option, Some, None, Result, Ok, Err, refl, ap, sym, subst}
-use Rattle.std.specs.Prelude.{if◌then◌else◌, option_map, slice_get}
+use Rattle.std.proofs.Common.{◌≡◌, ◌∙◌, ℕ, Bool, true, false, inl, inr, List, [], ◌∷◌, ◌++◌, Option, Some, None, Result, Ok, Err, refl, ap, sym, subst}
+use Rattle.std.specs.Prelude.{if◌then◌else◌, option_map}
 use Rattle.std.specs.Option.{option_or}
 use Rattle.pc_model.specs.declared.commit.SizedCommit.{SizedCommit}
 use Rattle.pc_model.specs.declared.event.Event.{Event}
-use Rattle.pc_model.specs.declared.event.Event.TheVariants.{Poll as Polled, Commit as Committed, CommitFailed, Tick, Drain, Done as AllDone}
+use Rattle.pc_model.specs.declared.event.Event.TheVariants.{Poll as Polled, CommitFailed, Tick, Drain, Done as AllDone}
 use Rattle.pc_model.specs.declared.outcome.Outcome.{Outcome}
 use Rattle.pc_model.specs.declared.outcome.Outcome.TheVariants.{Good, Bad}
-use Rattle.pc_model.specs.Given.{Given, parts_of}
+use Rattle.pc_model.specs.Given.{Given}
 use Rattle.pc_model.specs.Jobs.{has_ended, is_draining}
 use Rattle.pc_model.specs.Known.{commit_of, position_of}
 use Rattle.pc_model.specs.Retry.{failures_of}
-use Rattle.pc_model.specs.Run.{is_at_rest}
 use Rattle.pc_state.specs.declared.queries.Unfinished.{Unfinished}
 use Rattle.pc_state.specs.declared.queries.Unfinished.TheVariants as state
 use Rattle.pc_state.specs.Queries.{first_uncommitted, first_unfinished, unfinished_part}
@@ -30,11 +29,11 @@ use Rattle.pc_drain.specs.declared.action.Action.{Action}
 use Rattle.pc_drain.specs.declared.action.Action.TheVariants.{MoveClock, Commit, Poll, BeginDrain, Save, Finish, Rest}
 use Rattle.pc_drain.specs.declared.turn.Turn.{Turn}
 use Rattle.pc_drain.specs.declared.turn.Turn.TheVariants.{Went, Idle, Done, Undrained, Client, JournalFull, NoMemory}
-use Rattle.pc_drain.specs.Turn.{AfterClock, Commits, DoesAction, Finishes, SettlesFound, call_turn, commit_turn, finish_turn, refused_turn, save_turn}
+use Rattle.pc_drain.specs.Turn.{AfterClock, Commits, DoesAction, SettlesFound, call_turn, commit_turn, finish_turn, refused_turn, save_turn}
 use Rattle.pc_drain.proofs.ActionLemmas.{IsOver, IsReason}
 use Rattle.pc_drain.proofs.ResultLemmas.{Grows, tick-grows}
 use Rattle.pc_drain.proofs.ResultLemmas.Grows.{Same, More}
-use Rattle.pc_drain.proofs.StepLemmas.{CommitComes, commit-comes, drain-grows, finish-comes, poll-grows, tick-dropped}
+use Rattle.pc_drain.proofs.StepLemmas.{CommitComes, commit-comes, drain-grows, finish-comes, poll-grows}
 use Rattle.pc_drain.proofs.StepLemmas.CommitComes.{Failed, Stored, Unmade}
 
 -- ---- the history goes on

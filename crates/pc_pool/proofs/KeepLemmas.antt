@@ -1,5 +1,5 @@
 -- What is kept of a run after one more event, and at its end.
-use Rattle.std.proofs.Common.{◌≡◌, ◌∙◌, ℕ, ◌+◌, ◌≤◌, ◌<◌, Bool, true, false, ◌&&◌, inl, inr, List, [], ◌∷◌, ◌++◌, length, Option, Some, None, refl, ap, sym, subst, arith}
+use Rattle.std.proofs.Common.{◌≡◌, ◌∙◌, ℕ, ◌+◌, ◌≤◌, Bool, true, false, ◌&&◌, List, [], ◌∷◌, ◌++◌, Option, Some, None, refl, ap, sym, subst, arith}
 use Rattle.std.specs.Prelude.{is_some, nat_lt}
 use Rattle.std.specs.List.{list_all}
 use Rattle.std.proofs.lemmas.Bool.{and_from}
@@ -13,7 +13,7 @@ use Rattle.pc_model.specs.Lawful.{IsLegal}
 use Rattle.pc_model.specs.Pace.{goes_with, is_paced, is_paced_at}
 use Rattle.pc_model.specs.Steps.{follows, follows_at, place_of}
 use Rattle.pc_run_laws.specs.Failed.{is_unrefused, last_count}
-use Rattle.pc_run_laws.specs.Run.{AnyMayCome, IsRun}
+use Rattle.pc_run_laws.specs.Run.{AnyMayCome}
 use Rattle.pc_drain.specs.Causes.{HaveCauses, is_refused}
 use Rattle.pc_drain.specs.Counts.{dispatch_workers, settled_count, taken_count}
 use Rattle.pc_mailbox.specs.Ends.{Name, Receiving}
@@ -24,7 +24,7 @@ use Rattle.pc_state_lock.specs.Heading.{Heading}
 use Rattle.pc_state_lock.specs.History.{Continues}
 use Rattle.pc_pool.specs.declared.ending.Ending.{Ending}
 use Rattle.pc_pool.specs.Ending.{HasEnding}
-use Rattle.pc_pool.specs.Run.{CountsResults, GoesFrom, GoesOn, IsConsuming, RunView, heading_by}
+use Rattle.pc_pool.specs.Run.{CountsResults, GoesFrom, IsConsuming, RunView, heading_by}
 
 -- an event that is no failed commit needs no cause
 pub causes-event : (refuses : ℕ → Commit → Bool) (start faults : ℕ) (h : List Event) (v : Event)

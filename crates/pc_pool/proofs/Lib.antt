@@ -7,3 +7,4 @@ pub mod ControlLemmas
 pub mod BlockLemmas
 pub mod StepLemmas
 pub mod ReportLemmas
+pub mod JobLemmas

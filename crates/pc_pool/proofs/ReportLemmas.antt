@@ -1,19 +1,21 @@
 -- What a report says of a run that has ended, or that did not begin.
-use Rattle.std.proofs.Common.{◌≡◌, ◌∙◌, ℕ, ◌+◌, ◌≤◌, ◌<◌, Bool, true, false, inl, inr, List, [], length, Option, Some, None, refl, ap, sym, subst, arith}
-use Rattle.std.specs.Prelude.{◌^◌, is_some, slice_get}
+use Rattle.std.proofs.Common.{◌≡◌, ℕ, ◌≤◌, ◌<◌, Bool, true, inl, inr, List, [], length, Option, Some, None, refl, ap, sym, subst, arith}
+use Rattle.std.specs.Prelude.{is_some, slice_get}
 use Rattle.std.specs.Option.{option_flatten}
 use Rattle.pc_model.specs.declared.event.Event.{Event}
 use Rattle.pc_model.specs.declared.step.Step.{Step}
 use Rattle.pc_model.specs.Broker.{Broker}
-use Rattle.pc_model.specs.Given.{Given, has_log}
+use Rattle.pc_model.specs.Given.{Given, has_log, start_of}
 use Rattle.pc_model.specs.Lawful.{IsLegal}
 use Rattle.pc_model.specs.Stored.{may_store}
 use Rattle.pc_laws.specs.Lists.{In}
+use Rattle.pc_laws.proofs.HeldLaw.{log-below}
 use Rattle.pc_script.specs.Steps.{AreAllowed}
 use Rattle.pc_mailbox.specs.Ends.{Name, Receiving}
 use Rattle.pc_offset_client.specs.Client.{kept_for}
 use Rattle.pc_state_lock.specs.Heading.{Heading}
 use Rattle.pc_pool.specs.declared.ending.Ending.{Ending}
+use Rattle.pc_pool.specs.Jobs.{AreJobs}
 use Rattle.pc_pool.specs.Report.{IsReport}
 use Rattle.pc_pool.specs.Run.{CountsResults, IsConsuming, heading_by}
 use Rattle.pc_pool.specs.declared.ending.Ending.TheVariants.{NoMemory}
@@ -25,18 +27,19 @@ use Rattle.pc_engine.specs.Engine.{EngineView, given_of}
 -- a run that has ended
 pub reports : {T : Type 0} (run : Heading) (told : Bool) (h : List Event) (store : Broker)
     (faults used : ℕ) (ended : Option Ending) (e : Ending) (mail : Name) (inbox : Receiving T)
-    (returned : ℕ) → IsConsuming run told h store faults used ended → ended ≡ Some e
+    (returned : ℕ) (jobs : List ℕ) → IsConsuming run told h store faults used ended → ended ≡ Some e
     → CountsResults mail inbox returned h
     → (told ≡ true → (p : ℕ) → has_log run.given p ≡ true
     → In (kept_for store p) (may_store run.given h p))
-    → IsReport run told h (Some inbox) returned store faults e
-reports run told h store faults used ended e mail inbox returned keeps is counts kept = record {
+    → AreJobs run.workers h jobs → IsReport run told h (Some inbox) returned store faults e jobs
+reports run told h store faults used ended e mail inbox returned jobs keeps is counts kept counted = record {
   told_is = keeps.told_is;
   is_run = keeps.is_run;
   workers = keeps.workers;
+  counted = inl counted;
   comes = counts.counted;
   causes = keeps.causes;
-  stores = λ tells. inr (record { only = keeps.stores tells; kept = kept tells });
+  stores = λ tells. record { only = keeps.stores tells; kept = kept tells };
   used = used;
   ending = keeps.ending e is;
 }
@@ -105,16 +108,28 @@ counts-begin mail inbox h empty own = record {
   few = omega arith;
 }
 
--- a run that did not begin
+-- a run that did not begin, whose store has for each part what was given for its start
 pub unstarted-reports : {T : Type 0} (run : Heading) (told : Bool) → told ≡ run.given.is_told
-    → IsLegal run.given [] → IsReport {T = T} run told [] None 0 run.store run.faults NoMemory
-unstarted-reports run told same legal = record {
+    → IsLegal run.given []
+    → (told ≡ true → (p : ℕ) → p < length run.given.logs
+    → kept_for run.store p ≡ start_of run.given p)
+    → IsReport {T = T} run told [] None 0 run.store run.faults NoMemory []
+unstarted-reports run told same legal starts = record {
   told_is = same;
   is_run = record { legal = legal; follows = refl; paced = refl };
   workers = refl;
+  counted = inr (refl, refl, refl);
   comes = (refl, refl);
   causes = λ tells. record { counts = []; caused = tt; last = omega arith };
-  stores = λ tells. inl (refl, refl);
+  stores = λ tells. record {
+    only = record {
+      topic = refl;
+      parts = refl;
+      memberships = refl;
+      others = λ group q other. refl;
+    };
+    kept = λ p has. inl (starts tells p (log-below run.given.logs p has));
+  };
   used = 0;
   ending = tt;
 }

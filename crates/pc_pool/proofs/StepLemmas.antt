@@ -18,7 +18,7 @@ use Rattle.pc_model.specs.Broker.{Broker, has_part}
 use Rattle.pc_model.specs.Epochs.{is_held}
 use Rattle.pc_model.specs.Given.{Given, has_log}
 use Rattle.pc_model.specs.Lawful.{IsLegal}
-use Rattle.pc_model.specs.Steps.{Place, follows, is_step_due, may_begin, next_step}
+use Rattle.pc_model.specs.Steps.{Place, is_step_due, may_begin, next_step}
 use Rattle.pc_laws.specs.Lists.{In}
 use Rattle.pc_laws.proofs.Lists.{In-find, not-true}
 use Rattle.pc_offset_client.specs.Client.{FetchGives, TOPIC, kept_for}
@@ -42,7 +42,6 @@ use Rattle.pc_rebalance.proofs.StopLemmas.{applied-adds, applied-full, applied-s
 use Rattle.pc_state_lock.specs.Heading.{Heading}
 use Rattle.pc_state_lock.proofs.HistoryLemmas.{Continues-further}
 use Rattle.pc_pool.specs.declared.ending.Ending.{Ending}
-use Rattle.pc_pool.specs.declared.ending.Ending.TheVariants.{Client, BadMap, JournalFull, NoMemory}
 use Rattle.pc_pool.specs.Applied.{ending_by, used_after}
 use Rattle.pc_pool.specs.Ending.{HasCause, HasEnding, IsUnfetched, IsUnread, assigns_at}
 use Rattle.pc_pool.specs.Run.{GoesFrom, GoesOn, IsConsuming, RunView, heading_by, is_due_at, steps_left}

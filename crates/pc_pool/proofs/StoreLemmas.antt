@@ -1,5 +1,5 @@
 -- What stays of a broker whose store changed for some parts alone.
-use Rattle.std.proofs.Common.{◌≡◌, ◌∙◌, ℕ, Bool, List, [], refl, ap}
+use Rattle.std.proofs.Common.{◌≡◌, ◌∙◌, ℕ, Bool, List, [], ap}
 use Rattle.std.specs.Prelude.{ℤ, ◌&&◌, bytes_eq}
 use Rattle.pc_model.specs.declared.commit.Commit.{Commit}
 use Rattle.pc_model.specs.Broker.{Broker, Membership, has_part, is_part}

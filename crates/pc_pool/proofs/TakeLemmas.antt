@@ -1,6 +1,6 @@
 -- What is kept of a run when a worker takes a job.
-use Rattle.std.proofs.Common.{◌≡◌, ◌∙◌, ℕ, ◌+◌, ◌≤◌, ◌<◌, Bool, true, false, ◌&&◌, ◌||◌, not, inl, inr, List, [], ◌∷◌, ◌++◌, length, Option, Some, None, Result, Ok, Err, refl, ap, sym, subst, arith}
-use Rattle.std.specs.Prelude.{if◌then◌else◌, IfErr, nat_le, nat_lt, slice_get}
+use Rattle.std.proofs.Common.{◌≡◌, ◌∙◌, ℕ, ◌+◌, ◌≤◌, ◌<◌, Bool, true, false, ◌||◌, List, [], ◌∷◌, ◌++◌, length, Option, Some, None, Result, Ok, Err, refl, ap, sym, subst, arith}
+use Rattle.std.specs.Prelude.{if◌then◌else◌, IfErr, nat_le, nat_lt}
 use Rattle.std.specs.List.{list_all}
 use Rattle.std.specs.Option.{option_map_or}
 use Rattle.std.proofs.lemmas.Bool.{and_from, leb-false, lt-ltb, ltb-true}
@@ -12,13 +12,13 @@ use Rattle.pc_model.specs.Bound.{event_bound}
 use Rattle.pc_model.specs.Broker.{Broker}
 use Rattle.pc_model.specs.Epochs.{epoch_of}
 use Rattle.pc_model.specs.Given.{Given, parts_of}
-use Rattle.pc_model.specs.Jobs.{dispatch_count, has_ended, open_jobs}
+use Rattle.pc_model.specs.Jobs.{dispatch_count, open_jobs}
 use Rattle.pc_model.specs.Lawful.{IsLegal, is_nil}
 use Rattle.pc_model.specs.Next.{next_record}
 use Rattle.pc_model.specs.Pace.{is_tended}
 use Rattle.pc_model.specs.Retry.{failures_of}
 use Rattle.pc_model.specs.Run.{is_at_rest, success_count}
-use Rattle.pc_model.specs.Steps.{is_step_due, next_step, place_of}
+use Rattle.pc_model.specs.Steps.{is_step_due, next_step}
 use Rattle.pc_run_laws.specs.Run.{IsRun}
 use Rattle.pc_drain.specs.Counts.{dispatch_workers, settled_count}
 use Rattle.pc_task.specs.Jobs.{Outcomes, PlainJob}

@@ -1,7 +1,7 @@
 -- What each ending of a run means.
-use Rattle.std.specs.Prelude.{ℕ, ◌≡◌, ◌<◌, ◌⊎◌, ⊤, ℤ, pos, Bool, true, false, List, ◌∷◌, length, Option, Some, slice_get}
+use Rattle.std.specs.Prelude.{ℕ, ◌≡◌, ◌<◌, ◌⊎◌, ⊤, ℤ, pos, Bool, true, false, List, ◌∷◌, length, Some, slice_get}
 use Rattle.std.specs.Option.{option_map_or}
-use Rattle.pc_model.specs.declared.api.TheConstants.{NO_ERROR, UNKNOWN_TOPIC_OR_PARTITION}
+use Rattle.pc_model.specs.declared.api.TheConstants.{UNKNOWN_TOPIC_OR_PARTITION}
 use Rattle.pc_model.specs.declared.limits.TheConstants.{MAX_EVENTS}
 use Rattle.pc_model.specs.declared.commit.Commit.{Commit}
 use Rattle.pc_model.specs.declared.event.Event.{Event}
@@ -91,7 +91,7 @@ pub record IsUnread (run : Heading) (told : Bool) (h : List Event) (store : Brok
   pub kept : told ≡ true → stored ≡ kept_for store p
   pub refused : map_refusal run.given.setup.settings.bad_map stored ≡ Some fault
 
--- what an ending means
+-- What an ending means. Memory may run out at any time, and nothing is asked of a run that ends with it.
 abbrev pub HasEnding : Heading → Bool → List Event → Broker → ℕ → ℕ → Ending → Type 0
 HasEnding run told h store used faults Done = IsDone run h
 HasEnding run told h store used faults (Undrained p o failures) = IsUndrained run h p o failures

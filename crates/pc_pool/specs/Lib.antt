@@ -1,4 +1,5 @@
 pub mod Applied
 pub mod Ending
+pub mod Jobs
 pub mod Run
 pub mod Report

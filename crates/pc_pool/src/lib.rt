@@ -7,6 +7,7 @@
 mod applied;
 mod control;
 mod ending;
+mod jobs;
 mod pool;
 mod report;
 mod run;

@@ -1,6 +1,6 @@
 //! A run from its start to its end.
 
-ghost use Rattle.std.specs.Prelude.{◌≡◌, ◌≤◌, ◌<◌, ℕ, [], All, None, is_some, length, slice_get, true};
+ghost use Rattle.std.specs.Prelude.{◌≡◌, ◌≤◌, ◌<◌, ℕ, [], All, IfOk, None, is_some, length, slice_get, true, vec_len};
 ghost use Rattle.std.specs.Option.{option_flatten};
 ghost use Rattle.pc_script.specs.Steps.{AreAllowed};
 ghost use Rattle.pc_offset_client.specs.Client.{kept_for};
@@ -64,12 +64,15 @@ pub fn consume<
       faults = L.faults link;
     })
         (L.is_told result.link) result.journal.events result.inbox result.returned
-        (L.store result.link) (L.faults result.link) result.ended }
+        (L.store result.link) (L.faults result.link) result.ended result.jobs.items }
 {
     let origin = Snapshot::of(&link);
     let engine = match Engine::with_task(alloc, setup, logs, task, link) {
         Ok(engine) => engine,
         Err(link) => return unstarted(alloc, link),
+    };
+    let Ok(zeros) = vec![in alloc; 0; workers as usize] else {
+        return unstarted(alloc, engine.into_parts().1);
     };
     let Ok((mail, senders, inbox)) = Mailbox::new(alloc, workers) else {
         return unstarted(alloc, engine.into_parts().1);
@@ -86,7 +89,7 @@ pub fn consume<
         ended: None,
         origin,
     };
-    run_all(rt, alloc, run, &mail, senders, clock).report()
+    run_all(rt, alloc, run, &mail, senders, clock).report(zeros)
 }
 
 /// Lets the workers of a run work, each with one of these senders, until it has ended.
@@ -107,6 +110,7 @@ fn run_all<
     clock: &C,
 ) -> Run<'m, 'a, L, T, O>
     requires senders { All (λ s. IsFresh mail.now s) senders.items }
+    requires each { vec_len senders ≡ run.workers }
     ensures heading { heading_of T.outcome L.store L.faults result
         ≡ heading_of T.outcome L.store L.faults run.entry }
     ensures ended { is_some result.ended ≡ true }
@@ -122,7 +126,7 @@ fn run_all<
     lock.close(rt, pass).without_memory()
 }
 
-/// Makes the workers, each with one of the senders and a pass that is split from this one.
+/// Makes the workers, one for each of the senders, with a pass that is split from this one.
 fn hire<'l, 'm, 'a, L: Link, C: Clock, T: Task + Drop, O: Origin<L>>(
     alloc: Global,
     lock: &'l StateLock<Run<'m, 'a, L, T, O>>,
@@ -135,14 +139,16 @@ fn hire<'l, 'm, 'a, L: Link, C: Clock, T: Task + Drop, O: Origin<L>>(
     requires pass { IsPassOf lock.now pass.old }
     requires rests { IsAtRest pass.old }
     requires senders { All (λ s. IsFresh mail.now s) senders.items }
+    requires each { vec_len senders ≡ workers }
     requires few { workers ≤ workers_of lock.now }
+    ensures hired { IfOk result (λ hired. vec_len hired ≡ workers) }
     ensures pass { IsPassOf lock.now pass.new }
     ensures rests { IsAtRest pass.new }
 {
     let mut hired = Vec::with_capacity(alloc, workers as usize)?;
     for number in 0..workers {
         let Some(sender) = senders.pop() else {
-            break;
+            unreachable!();
         };
         let pass = lock.split(pass);
         hired.push_reserved(Worker {
@@ -163,12 +169,14 @@ fn hire<'l, 'm, 'a, L: Link, C: Clock, T: Task + Drop, O: Origin<L>>(
 fn unstarted<'a, L: Link, T: Task>(alloc: Global, link: L) -> Report<'a, L, T>
     ensures empty { result.journal.events ≡ [] }
     ensures inbox { (result.inbox ≡ None) × (result.returned ≡ 0) }
+    ensures jobs { result.jobs.items ≡ [] }
     ensures link { result.link ≡ link }
     ensures ended { result.ended ≡ NoMemory }
 {
     Report {
         journal: Journal::new(alloc),
         inbox: None,
+        jobs: Vec::new(alloc),
         returned: 0,
         link,
         ended: Ending::NoMemory,

@@ -13,6 +13,9 @@ pub struct Report<'a, L: Link, T: Task = RuleTask> {
     pub journal: Journal,
     /// The inbox from which the run took its results. None where memory ran out before it was made.
     pub inbox: Option<Inbox<Finished<'a, T>>>,
+    /// How many jobs each worker was given, by its number. Empty where memory ran out before the first
+    /// turn.
+    pub jobs: Vec<u64>,
     /// How many results the mailbox handed back for want of memory, which were then settled.
     pub returned: u64,
     /// The link.

@@ -7,6 +7,7 @@ ghost use Rattle.pc_model.specs.Lawful.{IsLegal};
 ghost use Rattle.pc_engine.specs.Engine.{given_of};
 
 use crate::ending::Ending;
+use crate::jobs::counted;
 use crate::report::Report;
 use pc_engine::Engine;
 use pc_mailbox::{Inbox, Mailbox};
@@ -92,7 +93,7 @@ pub(crate) fn legal<L: Link, T: Task>(engine: &Engine<'_, L, T>)
 }
 
 impl<'m, 'a, L: Link, T: Task, O: Origin<L> + Drop> Run<'m, 'a, L, T, O> {
-    ghost use Rattle.std.specs.Prelude.{◌≡◌, is_some, true};
+    ghost use Rattle.std.specs.Prelude.{◌≡◌, is_some, replicate, true};
     ghost use Rattle.pc_pool.specs.Report.{IsReport};
     ghost use Rattle.pc_pool.specs.Run.{heading_of};
 
@@ -108,12 +109,13 @@ impl<'m, 'a, L: Link, T: Task, O: Origin<L> + Drop> Run<'m, 'a, L, T, O> {
         self
     }
 
-    /// What the run ended with.
-    pub(crate) fn report(self) -> Report<'a, L, T>
-        requires { is_some self.ended ≡ true }
+    /// What the run ended with. The jobs of its workers are counted in the place of as many zeros.
+    pub(crate) fn report(self, zeros: Vec<u64>) -> Report<'a, L, T>
+        requires ended { is_some self.ended ≡ true }
+        requires zeros { zeros.items ≡ replicate self.workers 0 }
         ensures report { IsReport (heading_of T.outcome L.store L.faults self.entry)
             (L.is_told result.link) result.journal.events result.inbox result.returned
-            (L.store result.link) (L.faults result.link) result.ended }
+            (L.store result.link) (L.faults result.link) result.ended result.jobs.items }
         ensures told { L.is_told result.link ≡ L.is_told self.entry.engine.link }
     {
         let Run {
@@ -123,15 +125,17 @@ impl<'m, 'a, L: Link, T: Task, O: Origin<L> + Drop> Run<'m, 'a, L, T, O> {
             inbox,
             steps: _,
             used: _,
-            workers: _,
+            workers,
             returned,
             ended,
             origin: _,
         } = self;
         let (journal, link) = engine.into_parts();
+        let jobs = counted(&journal, workers, zeros);
         Report {
             journal,
             inbox: Some(inbox),
+            jobs,
             returned,
             link,
             ended: ended.unwrap(),

@@ -1,5 +1,5 @@
 -- A control turn keeps the run, or ends it with a cause.
-use Rattle.std.proofs.Common.{◌≡◌, ◌==◌, ℕ, Bool, inl, inr, sym, subst, length, None}
+use Rattle.std.proofs.Common.{Bool, inl, inr, sym, subst}
 use Rattle.pc_model.specs.Given.{Given}
 use Rattle.pc_model.specs.Lawful.{IsLegal}
 use Rattle.pc_task.specs.Results.{finished_job}
@@ -7,7 +7,6 @@ use Rattle.pc_engine.specs.Engine.{given_of}
 use Rattle.pc_engine.specs.Stand.{stand_of}
 use Rattle.pc_drain.specs.Action.{action_of}
 use Rattle.pc_drain.proofs.ActionLemmas.{reason}
-use Rattle.pc_state_lock.specs.Heading.{Heading}
 use Rattle.pc_pool.specs.Run.{IsConsuming, ended_by}
 use Rattle.pc_pool.proofs.EndLemmas.{later-action, later-found, means-action, means-found}
 use Rattle.pc_pool.proofs.ControlLemmas.{IsTurned, turned-keeps}

@@ -23,4 +23,5 @@ loop-number-preserved g c =
       let len = c.push_reserved.ensures.len in let was = c.loop-number.invariant.3 in omega (arith, len, was),
       let capacity = c.push_reserved.ensures.capacity in let was = c.loop-number.invariant.4 in
           omega (arith, capacity, was),
+      let left = c.in-Some.ensures.cases in let was = c.loop-number.invariant.5 in omega (arith, left, was),
     )

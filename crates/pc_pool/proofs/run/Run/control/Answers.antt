@@ -4,7 +4,7 @@ use Rattle.pc_drain.specs.declared.turn.Turn.{Turn}
 use Rattle.pc_pool.specs.declared.ending.Ending.{Ending}
 use Rattle.pc_pool.specs.Run.{ended_by}
 use Rattle.pc_pool.proofs.ControlLemmas.{ended-other, run-turned}
-use Rattle.pc_pool.proofs.KeepLemmas.{IsKeptBy, counts-turned, from-call}
+use Rattle.pc_pool.proofs.KeepLemmas.{IsKeptBy, counts-turned}
 use Rattle.pc_pool.proofs.run.Run.control.Goals as goal
 
 pub invariant_of-self : goal.invariant_of-self

@@ -1,7 +1,6 @@
 -- A result that is expected adds its event, and is counted.
 use Rattle.std.proofs.Common.{[], ◌∷◌, sym, ◌∙◌, arith}
 use Rattle.pc_task.specs.Results.{finished_job}
-use Rattle.pc_engine.specs.Effect.{settle_event}
 use Rattle.pc_engine.specs.Engine.{given_of}
 use Rattle.pc_pool.proofs.BackLemmas.{is-result, one-more, result-counted, run-settles}
 use Rattle.pc_pool.proofs.KeepLemmas.{counts-more, from-call, none-of}

@@ -1,5 +1,5 @@
 -- The dispatch of a job is paced, since nothing else is to be done.
-use Rattle.std.proofs.Common.{sym, subst, Option, Some, Err}
+use Rattle.std.proofs.Common.{sym, subst, Some, Err}
 use Rattle.pc_engine.specs.Engine.{given_of}
 use Rattle.pc_pool.specs.declared.ending.Ending.{Ending}
 use Rattle.pc_pool.proofs.KeepLemmas.{IsKeptBy, counts-same}
