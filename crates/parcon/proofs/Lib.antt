@@ -3,3 +3,4 @@ mod WrittenLemmas
 mod StartLemmas
 mod PromiseLemmas
 mod ToldLemmas
+mod RunLemmas

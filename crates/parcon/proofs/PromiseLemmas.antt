@@ -52,7 +52,7 @@ whole-not-memory : Whole ≡ NoMemory → ⊥
 whole-not-memory is = cc
 
 -- nothing is written when out of memory
-unwritten : (before after : Option (List ℕ)) (f f' : ℕ) (text : List ℕ) (wanted given : Status)
+pub unwritten : (before after : Option (List ℕ)) (f f' : ℕ) (text : List ℕ) (wanted given : Status)
     → (wanted ≡ NoMemory → text ≡ []) → given ≡ NoMemory → after ≡ before
     → IsWritten before after f f' text wanted given
 unwritten before after f f' text wanted given empty is same = record {
@@ -227,7 +227,7 @@ carried-none logs plan before after s status h rise same (inr is) none written m
 -- ---- the starts were sent
 
 -- all that were to be sent
-all-begin : (told : Bool) (starts : List Start) (m n : Moment) (answer : Sent) (status : Status)
+pub all-begin : (told : Bool) (starts : List Start) (m n : Moment) (answer : Sent) (status : Status)
     → SendsStarts told starts m n answer → Begins told starts m n answer status
 all-begin told starts m n answer status sends = record {
   count = length starts;

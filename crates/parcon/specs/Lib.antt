@@ -4,3 +4,5 @@ pub mod Ending
 pub mod Written
 pub mod Promise
 pub mod Told
+pub mod RunEnding
+pub mod RunPromise

@@ -9,15 +9,18 @@ ghost use Rattle.pc_world.specs.World.{HasRisen};
 ghost use Rattle.pc_inputs.specs.Status.{fault_line};
 ghost use Rattle.parcon.specs.Remark.{remark_line};
 ghost use Rattle.parcon.specs.Ending.{text_with};
+ghost use Rattle.parcon.specs.RunEnding.{ending_status, journal_text, last_lines, run_text};
 ghost use Rattle.parcon.specs.Written.{HasFront, IsOnItsWay, IsWritten, status_after, with_bytes};
 ghost use Rattle.pc_inputs.specs.declared.status.Status.TheVariants.{NoMemory, Whole};
 ghost use Rattle.parcon.specs.declared.output.OutputFault.TheVariants.{NoMemory as Unstored, SinkFailed as Failed};
 
 use crate::remark::put_remark;
-use pc_inputs::{Status, put_fault};
+use pc_inputs::{LimitKind, RunPlan, Status, put_fault};
+use pc_model::limits::MAX_EVENTS;
 use pc_model::{Event, Journal};
 use pc_play::Remark;
-use pc_print::put_event;
+use pc_pool::Ending;
+use pc_print::{put_event, put_summary};
 use pc_world::{Sink, SinkFailed};
 use std::alloc::{AllocError, Global};
 
@@ -225,6 +228,122 @@ pub(crate) fn tell_fault<O: Sink>(alloc: Global, out: &mut O, status: Status) ->
         status => {
             let put = put_status(alloc, out, &status);
             status_after(status, put)
+        }
+    }
+}
+
+/// The status of a run's ending.
+fn status_of(ended: Ending) -> Status
+    ensures { result ≡ ending_status ended }
+{
+    match ended {
+        Ending::Done => Status::Whole,
+        Ending::Undrained {
+            part,
+            offset,
+            failures,
+        } => Status::Undrained {
+            part,
+            offset,
+            failures,
+        },
+        Ending::Client(fault) => Status::LinkFault(fault),
+        Ending::BadMap { part, fault } => Status::BadMap { part, fault },
+        Ending::JournalFull => Status::Limit {
+            which: LimitKind::Events,
+            number: MAX_EVENTS,
+        },
+        Ending::NoMemory => Status::NoMemory,
+    }
+}
+
+/// Puts the text of the journal, unless it is left out.
+fn put_journal<O: Sink>(
+    out: &mut O,
+    buffer: &mut Vec<u8>,
+    journal: &Journal,
+    summary: bool,
+) -> Result<(), OutputFault>
+    ensures ok { (before : Option (List ℕ)) (text : List ℕ)
+        → IsOnItsWay before (O.written out.old) buffer.old.items text
+        → OnOk result (IsOnItsWay before (O.written out.new) buffer.new.items
+        (text ++ journal_text summary journal.now.events)) }
+    ensures err { (before : Option (List ℕ)) (text : List ℕ)
+        → IsOnItsWay before (O.written out.old) buffer.old.items text
+        → OnErr result (HasFront before (O.written out.new)
+        (text ++ journal_text summary journal.now.events)) }
+    ensures failed { result ≡ Err Failed → HasRisen (O.faults out.old) (O.faults out.new) }
+    ensures unfailed { OnOk result (O.faults out.new ≡ O.faults out.old) }
+    ensures count { O.faults out.old ≤ O.faults out.new }
+{
+    if summary {
+        return Ok(());
+    }
+    put_events(out, buffer, journal.as_slice())
+}
+
+/// Appends the last lines of a run that ended so: the summary, or the fault line.
+fn put_last(
+    alloc: Global,
+    buffer: &mut Vec<u8>,
+    plan: &RunPlan<'_>,
+    journal: &Journal,
+    ended: Ending,
+) -> Result<(), AllocError>
+    ensures ok { OnOk result (buffer.new.items ≡ buffer.old.items
+        ++ last_lines plan.now.setup plan.now.logs journal.now.events ended) }
+    ensures err { OnErr result (buffer.new.items ≡ buffer.old.items) }
+{
+    match ended {
+        Ending::Done => put_summary(alloc, buffer, &plan.setup, &plan.logs, journal),
+        ended => put_fault(alloc, buffer, &status_of(ended)),
+    }
+}
+
+/// Writes the output of a run that ended so.
+fn put_run<O: Sink>(
+    alloc: Global,
+    out: &mut O,
+    plan: &RunPlan<'_>,
+    journal: &Journal,
+    ended: Ending,
+) -> Result<(), OutputFault>
+    ensures whole { OnOk result (O.written out.new ≡ with_bytes (O.written out.old)
+        (journal_text plan.now.summary journal.now.events
+        ++ last_lines plan.now.setup plan.now.logs journal.now.events ended)) }
+    ensures front { HasFront (O.written out.old) (O.written out.new)
+        (journal_text plan.now.summary journal.now.events
+        ++ last_lines plan.now.setup plan.now.logs journal.now.events ended) }
+    ensures failed { result ≡ Err Failed → HasRisen (O.faults out.old) (O.faults out.new) }
+    ensures unfailed { OnOk result (O.faults out.new ≡ O.faults out.old) }
+    ensures count { O.faults out.old ≤ O.faults out.new }
+{
+    let mut buffer = Vec::new(alloc);
+    put_journal(out, &mut buffer, journal, plan.summary)?;
+    put_last(alloc, &mut buffer, plan, journal, ended)?;
+    flush(out, &mut buffer)?;
+    Ok(())
+}
+
+/// Writes the output of a run that ended so, and returns the status. Where the run ran out of memory
+/// there is none.
+pub(crate) fn tell_run<O: Sink>(
+    alloc: Global,
+    out: &mut O,
+    plan: &RunPlan<'_>,
+    journal: &Journal,
+    ended: Ending,
+) -> Status
+    ensures { IsWritten (O.written out.old) (O.written out.new) (O.faults out.old)
+        (O.faults out.new)
+        (run_text plan.now.summary plan.now.setup plan.now.logs journal.now.events ended)
+        (ending_status ended) result }
+{
+    match ended {
+        Ending::NoMemory => Status::NoMemory,
+        ended => {
+            let put = put_run(alloc, out, plan, journal, ended);
+            status_after(status_of(ended), put)
         }
     }
 }

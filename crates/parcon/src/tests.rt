@@ -1,15 +1,18 @@
-//! Plays over an outside in memory whose reads, calls of the link and writes fail, over brokers that
-//! store something or have another topic, and over a link that tells nothing. `cases/` has all other
-//! plays.
+//! Plays and runs over an outside in memory whose reads, calls of the link and writes fail, over
+//! brokers that store something or have another topic, and over a link that tells nothing. `cases/`
+//! has all other plays and runs.
 
 use crate::offline::offline;
 use crate::play_setup::Ended;
+use crate::top::parcon;
 use pc_model::{Commit, MapText};
 use pc_offset_client::{Client, GROUP, TOPIC};
 use pc_offset_store::OffsetBroker;
-use pc_world::{FailingLink, Link, LinkFault, MemoryFiles, MemorySink};
+use pc_world::{FailingLink, Link, LinkFault, MemoryFiles, MemorySink, StepClock};
 use std::alloc::{AllocError, Global};
+use std::sync::Wait;
 use std::test::Fail;
+use std::thread::Threads;
 
 /// More than any output of these tests.
 const ROOM: u64 = 1024;
@@ -32,8 +35,31 @@ const THREE_RECORDS: [u8; 91] = [
     0x14, 0x00, 0x00, 0x04, 0x02, 0x61, 0x06, 0x7A, 0x7A, 0x7A, 0x00,
 ];
 
-/// Plays the script over `a.log`, which has three records, with this configuration, over a link. The
-/// read of this number fails, 0 for none: the configuration is read first, then the log and the script.
+/// The files of a command: a configuration, a log of three records, and a script. The read of this
+/// number fails, 0 for none: the configuration is read first, then the log and the script.
+fn files(
+    alloc: Global,
+    config: &[u8],
+    script: &[u8],
+    read: u64,
+) -> Result<MemoryFiles, AllocError> {
+    let mut files = MemoryFiles::new(alloc, &[read])?;
+    files.add("c.toml", config)?;
+    files.add("a.log", &THREE_RECORDS)?;
+    files.add("a.script", script)?;
+    Ok(files)
+}
+
+/// The words that ask for a command over these files.
+fn words(alloc: Global, command: &str) -> Result<Vec<String>, AllocError> {
+    let mut words = Vec::new(alloc);
+    for word in [command, "--config=c.toml", "a.log", "a.script"] {
+        words.push(String::from_str(alloc, word)?)?;
+    }
+    Ok(words)
+}
+
+/// Plays a script over such files, over a link.
 fn play<L: Link + Drop>(
     alloc: Global,
     config: &[u8],
@@ -42,19 +68,27 @@ fn play<L: Link + Drop>(
     link: L,
     out: &mut MemorySink,
 ) -> Result<Ended<L>, AllocError> {
-    let mut files = MemoryFiles::new(alloc, &[read])?;
-    files.add("c.toml", config)?;
-    files.add("a.log", &THREE_RECORDS)?;
-    files.add("a.script", script)?;
-    let mut words = Vec::new(alloc);
-    for word in ["play", "--config=c.toml", "a.log", "a.script"] {
-        words.push(String::from_str(alloc, word)?)?;
-    }
+    let mut files = files(alloc, config, script, read)?;
+    let words = words(alloc, "play")?;
     Ok(offline(alloc, &words, &mut files, link, out))
 }
 
-/// A play over an outside of which something fails, and how it ends. Numbers of calls count from 1;
-/// 0 is none.
+/// Runs the steps of a script over such files, over a link, by a clock that each rest sets on.
+fn run<R: Threads + Wait + Sync, L: Link + Send + Drop>(
+    rt: &R,
+    alloc: Global,
+    row: &Row,
+    link: L,
+    out: &mut MemorySink,
+) -> Result<Ended<L>, AllocError> {
+    let mut files = files(alloc, row.config, row.script, row.read)?;
+    let words = words(alloc, "run")?;
+    let clock = StepClock::new();
+    Ok(parcon(rt, alloc, &words, &mut files, &clock, link, out))
+}
+
+/// A play or a run over an outside of which something fails, and how it ends. Numbers of calls count
+/// from 1; 0 is none.
 #[derive(Clone, Copy)]
 struct Row {
     config: &'static [u8],
@@ -335,7 +369,7 @@ fn broker(alloc: Global, is_stored: bool) -> Result<OffsetBroker, Fail> {
     Ok(broker)
 }
 
-/// What is seen of a play at its end.
+/// What is seen of a play or a run at its end.
 #[derive(Drop)]
 struct Seen {
     out: MemorySink,
@@ -355,11 +389,12 @@ fn link(alloc: Global, row: &Row) -> Result<FailingLink<OffsetBroker>, Fail> {
     }
 }
 
-/// Plays a row.
-fn seen_of(alloc: Global, row: &Row) -> Result<Seen, Fail> {
-    let mut out = MemorySink::new(alloc, row.room, &[row.write])?;
-    let link = link(alloc, row)?;
-    let ended = play(alloc, row.config, row.script, row.read, link, &mut out)?;
+/// What is seen of a command that ended so, with this output.
+fn seen_of(
+    alloc: Global,
+    ended: Ended<FailingLink<OffsetBroker>>,
+    out: MemorySink,
+) -> Result<Seen, Fail> {
     let (status, events) = (ended.status.number(), ended.journal.len());
     let mut client = Client::new(alloc, ended.link.into_link());
     let first = client.fetch(0)?;
@@ -373,10 +408,196 @@ fn seen_of(alloc: Global, row: &Row) -> Result<Seen, Fail> {
     })
 }
 
+/// What is seen of the play of a row.
+fn seen_of_play(alloc: Global, row: &Row) -> Result<Seen, Fail> {
+    let mut out = MemorySink::new(alloc, row.room, &[row.write])?;
+    let link = link(alloc, row)?;
+    let ended = play(alloc, row.config, row.script, row.read, link, &mut out)?;
+    seen_of(alloc, ended, out)
+}
+
+/// What is seen of the run of a row.
+fn seen_of_run<R: Threads + Wait + Sync>(rt: &R, alloc: Global, row: &Row) -> Result<Seen, Fail> {
+    let mut out = MemorySink::new(alloc, row.room, &[row.write])?;
+    let link = link(alloc, row)?;
+    let ended = run(rt, alloc, row, link, &mut out)?;
+    seen_of(alloc, ended, out)
+}
+
 #[test]
 fn each_fault_of_the_outside(rt: HostRuntime) -> Result<(), Fail> {
     for row in ROWS {
-        let seen = seen_of(rt.alloc(), &row)?;
+        let seen = seen_of_play(rt.alloc(), &row)?;
+        let stored = (seen.first.position, seen.first.map.as_str(), seen.second);
+        assert_eq!(rt; seen.out.bytes(), row.output, "after {:?}", row.script);
+        assert_eq!(rt;
+            (seen.status, seen.events),
+            (row.status, row.events),
+            "at {:?}",
+            row.output
+        );
+        assert_eq!(rt; stored, row.stored, "at {:?}", row.output);
+    }
+    Ok(())
+}
+
+const ONE_WORKER: &[u8] = b"workers = 1\n";
+
+const TWO_STARTS: &[u8] = b"workers = 1\n\
+start = [{ part = 1, position = 5 }, { part = 0, position = 1, map = \"bAACAg==\" }]\n";
+
+const ONE_STEP: &[u8] = b"at 0 assign 0\n";
+
+const GIVEN_BACK: &[u8] = b"at 0 assign 0\nat 2 revoke 0\nat 2 assign 0\n";
+
+/// A run of the three records by one worker, over an outside of which nothing fails.
+const RUN_ROW: Row = Row {
+    config: ONE_WORKER,
+    script: ONE_STEP,
+    is_stored: false,
+    read: 0,
+    early: 0,
+    late: 0,
+    write: 0,
+    room: ROOM,
+    output: b"assign 0 epoch 1 at 0 map =\npoll 0 count 3 last 2\n\
+dispatch 1 worker 0 part 0 offset 0 epoch 1 attempt 1\nsuccess 1 =1\n\
+dispatch 2 worker 0 part 0 offset 1 epoch 1 attempt 1\nsuccess 2 =2\n\
+dispatch 3 worker 0 part 0 offset 2 epoch 1 attempt 1\nsuccess 3 =3\n\
+drain\ncommit 0 at 3 map = size 0\ndone\n\
+record 0 0 =1\nrecord 0 1 =2\nrecord 0 2 =3\nend 0 3\n",
+    status: 0,
+    events: 11,
+    stored: (3, "", 0),
+};
+
+/// The same, where the commit in the drain fails before the broker has it.
+const UNSAVED_ROW: Row = Row {
+    early: 2,
+    output: b"assign 0 epoch 1 at 0 map =\npoll 0 count 3 last 2\n\
+dispatch 1 worker 0 part 0 offset 0 epoch 1 attempt 1\nsuccess 1 =1\n\
+dispatch 2 worker 0 part 0 offset 1 epoch 1 attempt 1\nsuccess 2 =2\n\
+dispatch 3 worker 0 part 0 offset 2 epoch 1 attempt 1\nsuccess 3 =3\n\
+drain\ncommit-failed 0 at 3 map = size 0\nfault link link-failed\n",
+    status: 8,
+    events: 10,
+    stored: (0, "", 0),
+    ..RUN_ROW
+};
+
+/// A run whose part is given back after two records, where the commit of that fails before the broker
+/// has it, so that the records are run again.
+const AGAIN_ROW: Row = Row {
+    script: GIVEN_BACK,
+    early: 2,
+    output: b"assign 0 epoch 1 at 0 map =\npoll 0 count 3 last 2\n\
+dispatch 1 worker 0 part 0 offset 0 epoch 1 attempt 1\nsuccess 1 =1\n\
+dispatch 2 worker 0 part 0 offset 1 epoch 1 attempt 1\nsuccess 2 =2\n\
+commit-failed 0 at 2 map = size 0\nrevoke 0 epoch 1\n\
+assign 0 epoch 3 at 0 map =\npoll 0 count 3 last 2\n\
+dispatch 3 worker 0 part 0 offset 0 epoch 3 attempt 1\nsuccess 3 =1\n\
+dispatch 4 worker 0 part 0 offset 1 epoch 3 attempt 1\nsuccess 4 =2\n\
+dispatch 5 worker 0 part 0 offset 2 epoch 3 attempt 1\nsuccess 5 =3\n\
+drain\ncommit 0 at 3 map = size 0\ndone\n\
+record 0 0 =1\nrecord 0 1 =2\nrecord 0 2 =3\nend 0 3\n",
+    events: 19,
+    ..RUN_ROW
+};
+
+/// A run that does not begin, as its status says.
+const UNRUN_ROW: Row = Row {
+    output: START_FAILED,
+    status: 8,
+    events: 0,
+    stored: (0, "", 0),
+    ..RUN_ROW
+};
+
+const RUN_ROWS: [Row; 15] = [
+    RUN_ROW,
+    // The link fails at the fetch of the assignment, at the commit in the drain, and at that of a
+    // revocation, before the broker has it and after.
+    Row {
+        early: 1,
+        ..UNRUN_ROW
+    },
+    Row {
+        late: 1,
+        ..UNRUN_ROW
+    },
+    UNSAVED_ROW,
+    Row {
+        early: 0,
+        late: 2,
+        stored: (3, "", 0),
+        ..UNSAVED_ROW
+    },
+    AGAIN_ROW,
+    // It fails at each of two starts.
+    Row {
+        config: TWO_STARTS,
+        early: 1,
+        ..UNRUN_ROW
+    },
+    Row {
+        config: TWO_STARTS,
+        early: 2,
+        stored: (0, "", 5),
+        ..UNRUN_ROW
+    },
+    // The third call is then the fetch.
+    Row {
+        config: TWO_STARTS,
+        early: 3,
+        stored: (1, "bAACAg==", 5),
+        ..UNRUN_ROW
+    },
+    // Each read fails.
+    Row {
+        read: 1,
+        output: b"fault read =c.toml\n",
+        status: 2,
+        ..UNRUN_ROW
+    },
+    Row {
+        read: 2,
+        output: b"fault read =a.log\n",
+        status: 2,
+        ..UNRUN_ROW
+    },
+    Row {
+        read: 3,
+        output: b"fault read =a.script\n",
+        status: 2,
+        ..UNRUN_ROW
+    },
+    // The writes fail: the first and the second of a run, and that of a fault line.
+    Row {
+        write: 1,
+        output: b"",
+        status: 7,
+        ..RUN_ROW
+    },
+    Row {
+        write: 2,
+        room: 8,
+        output: b"assign 0",
+        status: 7,
+        ..RUN_ROW
+    },
+    Row {
+        early: 1,
+        write: 1,
+        output: b"",
+        status: 7,
+        ..UNRUN_ROW
+    },
+];
+
+#[test]
+fn each_fault_of_the_outside_in_a_run(rt: HostRuntime) -> Result<(), Fail> {
+    for row in RUN_ROWS {
+        let seen = seen_of_run(&rt, rt.alloc(), &row)?;
         let stored = (seen.first.position, seen.first.map.as_str(), seen.second);
         assert_eq!(rt; seen.out.bytes(), row.output, "after {:?}", row.script);
         assert_eq!(rt;
