@@ -8,33 +8,43 @@ use pc_model::MapFault;
 use pc_offset_client::ClientFault;
 use pc_state::Unfinished;
 use std::alloc::{AllocError, AllocFailed};
+use thiserror::Error;
 
 /// Why the engine refused a call. After a refusal all is as before, but for a failed commit.
-#[derive(Clone, Copy, Debug, PartialEq, Eq)]
+#[derive(Clone, Copy, Debug, PartialEq, Eq, Error)]
 pub enum EngineFault {
     /// The engine has ended.
+    #[error("the engine has ended")]
     Closed,
     /// The part has no log.
+    #[error("the part has no log")]
     UnknownPart,
     /// The part is held already.
+    #[error("the part is held already")]
     AlreadyHeld,
     /// The part is not held.
+    #[error("the part is not held")]
     NotHeld,
     /// The engine drains.
+    #[error("the engine drains")]
     Draining,
     /// The part is blocked, and the next record is above its greatest complete offset, `high`.
+    #[error("the part is blocked above {high}")]
     Pressed {
         high: u64,
     },
     /// With the events of this call and those kept for jobs that are out there would be more than
     /// 4,000,000.
+    #[error("the journal is full")]
     JournalFull,
     /// The record at this offset of the part was not polled or is not complete.
+    #[error("offset {offset} of part {part} is not complete")]
     NotDone {
         part: u32,
         offset: u64,
     },
     /// The part's position is not certainly stored: `stored` may be.
+    #[error("position {position} of part {part} is not certainly stored: {stored} may be")]
     Uncommitted {
         part: u32,
         stored: u64,
@@ -42,11 +52,14 @@ pub enum EngineFault {
     },
     /// The link's client failed, never because it is out of memory. After a failed commit the event
     /// of that stands in the journal, and the store may have the commit.
+    #[error("{0}")]
     Client(ClientFault),
     /// The stored map does not read, and the setup refuses such maps. Never because it is out of
     /// memory.
+    #[error("the stored map does not read: {0}")]
     BadMap(MapFault),
     /// Out of memory.
+    #[error("out of memory")]
     NoMemory,
 }
 

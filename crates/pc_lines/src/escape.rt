@@ -22,7 +22,7 @@ impl fmt::Display for UnescapeFault {
     fn fmt<W: fmt::Write>(&self, f: &mut fmt::Formatter<W>) -> fmt::Result {
         match self {
             UnescapeFault::Bad => write!(f, "not an escaped text"),
-            UnescapeFault::NoMemory => write!(f, "no memory"),
+            UnescapeFault::NoMemory => write!(f, "out of memory"),
         }
     }
 }

@@ -9,6 +9,7 @@ use crate::limits::{MAX_DELAY, MAX_METADATA_BYTES, MAX_PARTS, MAX_RECORDS};
 use crate::lists::{Delays, FailRules, Starts};
 use crate::outcome::{FailRule, Rules, Start};
 use std::alloc::{AllocError, Global};
+use thiserror::Error;
 
 /// The values of a setup before their ranges are known.
 #[derive(Debug, Drop)]
@@ -77,15 +78,17 @@ impl SetupField {
 }
 
 /// Why values make no setup.
-#[derive(Clone, Copy, Debug, PartialEq, Eq)]
+#[derive(Clone, Copy, Debug, PartialEq, Eq, Error)]
 pub enum SetupFault {
     /// The field's value or length lies outside the range, whose ends are both allowed.
+    #[error("{field:?} is not from {least} to {most}")]
     OutOfRange {
         field: SetupField,
         least: u64,
         most: u64,
     },
     /// The part stands in two starts.
+    #[error("part {part} stands in two starts")]
     PartTwice {
         part: u32,
     },

@@ -20,7 +20,7 @@ impl fmt::Display for JournalTextFault {
     fn fmt<W: fmt::Write>(&self, f: &mut fmt::Formatter<W>) -> fmt::Result {
         match self {
             JournalTextFault::Bad { line } => write!(f, "line {line} is no event's"),
-            JournalTextFault::NoMemory => write!(f, "no memory"),
+            JournalTextFault::NoMemory => write!(f, "out of memory"),
         }
     }
 }

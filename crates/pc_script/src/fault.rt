@@ -72,7 +72,7 @@ impl fmt::Display for ScriptReadFault {
                 write!(f, "line {line}: {kind}")
             }
             ScriptReadFault::TooManyLines => write!(f, "too many lines"),
-            ScriptReadFault::NoMemory => write!(f, "no memory"),
+            ScriptReadFault::NoMemory => write!(f, "out of memory"),
         }
     }
 }
