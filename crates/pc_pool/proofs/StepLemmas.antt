@@ -29,6 +29,7 @@ use Rattle.pc_engine.specs.declared.fault.EngineFault.TheVariants as fault
 use Rattle.pc_engine.specs.Effect.{IsFetched, StoresOnly}
 use Rattle.pc_engine.specs.Engine.{Asks, EngineView, given_of}
 use Rattle.pc_engine.specs.Stand.{Stand, stand_of}
+use Rattle.pc_engine.proofs.EngineLemmas.{may_assign as unrefused}
 use Rattle.pc_task.specs.Jobs.{Outcomes}
 use Rattle.pc_run_laws.specs.Run.{IsRun}
 use Rattle.pc_drain.specs.Causes.{HaveCauses, is_refused}
@@ -230,6 +231,7 @@ module _ (run : Heading) (told : Bool) (used : ℕ) (step : Step) (a b : Stand)
       record {
         part = p;
         assigned = stop-at p may;
+        logged = (unrefused run.given mid.history p stops.asked).known;
         free = stop-free b.history (assigned_parts run.given a.history step.act) p stops.first;
         count = mid.faults;
         causes = λ is_told. causes-later (is_refused run.store) run.faults b.history a.faults
@@ -257,6 +259,7 @@ module _ (run : Heading) (told : Bool) (used : ℕ) (step : Step) (a b : Stand)
       record {
         assigned = stop-at p
             (stop-assigned run.given a.history b.history step.act p stops.first);
+        logged = (unrefused run.given mid.history p stops.asked).known;
         free = stop-free b.history (assigned_parts run.given a.history step.act) p stops.first;
         stored = answered.0;
         kept = λ is_told. (fetched.gives is_told).1

@@ -10,6 +10,7 @@ use Rattle.pc_model.specs.declared.map_fault.MapFault.{MapFault}
 use Rattle.pc_model.specs.Bound.{event_bound, may_assign}
 use Rattle.pc_model.specs.Broker.{Broker, has_part}
 use Rattle.pc_model.specs.Epochs.{is_held}
+use Rattle.pc_model.specs.Given.{has_log}
 use Rattle.pc_model.specs.Jobs.{is_draining}
 use Rattle.pc_model.specs.Retry.{failures_of}
 use Rattle.pc_model.specs.Run.{is_at_rest}
@@ -75,6 +76,7 @@ pub record IsUnfetched (run : Heading) (told : Bool) (h : List Event) (used faul
     (failed : ClientFault) : Type 0 where
   pub part : ℕ
   pub assigned : assigns_at run used part ≡ true
+  pub logged : has_log run.given part ≡ true
   pub free : is_held h part ≡ false
   pub count : ℕ
   pub causes : told ≡ true → HaveCauses (is_refused run.store) run.faults h count
@@ -86,6 +88,7 @@ pub record IsUnfetched (run : Heading) (told : Bool) (h : List Event) (used faul
 pub record IsUnread (run : Heading) (told : Bool) (h : List Event) (store : Broker) (used p : ℕ)
     (fault : MapFault) : Type 0 where
   pub assigned : assigns_at run used p ≡ true
+  pub logged : has_log run.given p ≡ true
   pub free : is_held h p ≡ false
   pub stored : Commit
   pub kept : told ≡ true → stored ≡ kept_for store p
